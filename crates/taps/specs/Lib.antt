@@ -1,0 +1,4 @@
+pub mod Readings
+pub mod Calls
+pub mod Promise
+pub mod Values
