@@ -1,0 +1,4 @@
+pub mod Only
+pub mod Returns
+pub mod Told
+pub mod Written
