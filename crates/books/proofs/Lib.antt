@@ -1,0 +1,4 @@
+pub mod Books
+pub mod Only
+pub mod Returns
+pub mod Written
