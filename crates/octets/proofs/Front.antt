@@ -54,7 +54,7 @@ none-written old bs n size short =
     let no : false ≡ leb (length bs) (length old) = sym (lt-leb _ _ (omega arith)) in
     ((λ k. pick (no k) (Some (length bs)) None), (λ k. pick (no k) (bs ++ drop (length bs) old) old))
 
--- the first i of a list are written, in w bytes each
+-- the first i of a list are written, one behind the other
 abbrev pub Put : {A : Type 0} → (A → List ℕ) → ℕ → List A → List ℕ → List ℕ → Type 0
 Put f i xs old out = Front old out (joined f (take i xs))
 
