@@ -1,0 +1,10 @@
+pub mod Minimal
+pub mod Folds
+pub mod Capped
+pub mod Lists
+pub mod Choice
+pub mod Best
+pub mod Parts
+pub mod Meet
+pub mod Imitation
+pub mod Trying

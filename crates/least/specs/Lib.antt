@@ -1,0 +1,3 @@
+pub mod Minima
+pub mod Readers
+pub mod Laws
