@@ -53,10 +53,6 @@ pub by-first : {X : Type 0} (whole rest : List ℕ → X) (n : ℕ) → ((bs : L
 by-first whole rest n split bs x some first e =
     e ∙ sym (split (between 1 (length bs) bs)) ∙ ap (λ k. whole (k ∷ between 1 (length bs) bs)) (sym first) ∙ ap whole (sym (first-rest bs 0 some))
 
-pub pick-both : {A : Type 0} (P : A → Type 0) (t : Bool) (x y : A) → P x → P y → P (pick t x y)
-pick-both P true x y p q = p
-pick-both P false x y p q = q
-
 -- which way a test went
 pub ways : {A : Type 0} (t : Bool) (x y z : A) → pick t x y ≡ z → ((t ≡ true) × (x ≡ z)) ⊎ ((t ≡ false) × (y ≡ z))
 ways true x y z e = inl (refl, e)

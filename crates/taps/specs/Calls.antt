@@ -4,7 +4,7 @@
 -- ts: the times of the taps that the desk holds, in ms, from the first on. most: the limit, how many taps it may hold.
 use mathlib.Core.Bool.{_||_}
 use mathlib.Core.List.{List, [], _∷_, _++_}
-use Prim.Native.Nat.{ℕ, _+_, _-_}
+use Prim.Native.Nat.{ℕ, _-_}
 use lib.Dec.{ltb, eqb}
 use lib.ListN.{length}
 use Rattle.taps.specs.Readings.{pick, Book, Read, least, reading}

@@ -5,7 +5,7 @@
 use mathlib.Core.Path.{_≡_}
 use mathlib.Core.Bool.{Bool, true, false, _&&_, _||_}
 use mathlib.Core.List.{List, [], _∷_, _++_}
-use Prim.Native.Nat.{ℕ, zero, suc, _+_, _*_, _-_, _≤_, _<_}
+use Prim.Native.Nat.{ℕ, zero, suc, _+_, _*_, _≤_, _<_}
 use lib.Dec.{ltb, leb, eqb}
 use lib.ListN.{length}
 use Rattle.taps.specs.Readings.{Kind, Book, Read, kind-at, tempo-at, all-cost, in-book, least, reading}
@@ -66,16 +66,17 @@ Refusal-keeps d =
     (b : Book) (most : ℕ) (cs : List Call) (c : Call) → Good-book b → most ≤ 256 → all-readable (cs ++ (c ∷ [])) ≡ true → 0 < turned most (ran most [] cs) c →
     d .next (left-by d (d .opened b most) cs) c ≡ left-by d (d .opened b most) cs
 
--- gaps as taps can have them
+-- each gap is below 2^24
 unfoldable pub small : List ℕ → Bool
 small [] = true
-small (g ∷ gs) = (ltb 0 g && ltb g 16777216) && small gs
+small (g ∷ gs) = ltb g 16777216 && small gs
 
--- 1. Nobody reads better: the reading told is one, it costs the least, and no other costs less
+-- 1. Nobody reads better: the reading told is one and costs the least; and no reading of any book and gaps costs less
 unfoldable pub Least : Type 0
 Least =
-    (b : Book) (gs : List ℕ) (rs : List Read) → Good-book b → small gs ≡ true → length gs ≤ 255 → length rs ≡ length gs → in-book b rs ≡ true →
-    (length (reading b 0 gs) ≡ length gs) × (in-book b (reading b 0 gs) ≡ true) × (all-cost b 0 gs (reading b 0 gs) ≡ least b 0 gs) × (least b 0 gs ≤ all-cost b 0 gs rs)
+    ((b : Book) (gs : List ℕ) → Good-book b → small gs ≡ true → length gs ≤ 255 →
+    (length (reading b 0 gs) ≡ length gs) × (in-book b (reading b 0 gs) ≡ true) × (all-cost b 0 gs (reading b 0 gs) ≡ least b 0 gs))
+    × ((b : Book) (gs : List ℕ) (rs : List Read) → length rs ≡ length gs → in-book b rs ≡ true → least b 0 gs ≤ all-cost b 0 gs rs)
 
 -- 2. And it is the first that costs so little: another one has, at the first gap where they differ, a later kind, or the same kind at a later tempo
 unfoldable pub comes-first : List Read → List Read → Bool
@@ -101,35 +102,30 @@ played b t (k ∷ ks) [] = false
 played b t (k ∷ ks) (g ∷ gs) = (ltb k (length (b .kinds)) && eqb (12 * g) (kind-at b k .ticks * tempo-at b t)) && played b t ks gs
 
 unfoldable pub As-written : Type 0
-As-written = (b : Book) (t : ℕ) (ks gs : List ℕ) → Good-book b → no-weights (b .kinds) ≡ true → t < length (b .tempi) → played b t ks gs ≡ true → least b 0 gs ≡ 0
+As-written = (b : Book) (t : ℕ) (ks gs : List ℕ) → no-weights (b .kinds) ≡ true → t < length (b .tempi) → played b t ks gs ≡ true → least b 0 gs ≡ 0
 
--- 4. All taps later by as much: the same reading
+-- 4. All taps later by as much: the same reading, and the same least
 unfoldable pub later : ℕ → List ℕ → List ℕ
 later n [] = []
 later n (t ∷ ts) = (t + n) ∷ later n ts
 
 unfoldable pub Later : Type 0
-Later = (b : Book) (ts : List ℕ) (n : ℕ) → reading b 0 (gaps (later n ts)) ≡ reading b 0 (gaps ts)
+Later = (b : Book) (ts : List ℕ) (n : ℕ) → (reading b 0 (gaps (later n ts)) ≡ reading b 0 (gaps ts)) × (least b 0 (gaps (later n ts)) ≡ least b 0 (gaps ts))
 
--- 5. A longer book is never worse: more kinds, or more tempi, cost no more
+-- 5. A longer book is never worse: more kinds, or more tempi, cost no more; nor do lower weights and a lower change
 unfoldable pub More : Type 0
 More =
-    (b c : Book) (gs : List ℕ) → Good-book b → Good-book c → small gs ≡ true → length gs ≤ 255 → c .change ≡ b .change →
-    ((k : ℕ) → k < length (b .kinds) → (j : ℕ) × (j < length (c .kinds)) × (kind-at c j ≡ kind-at b k)) →
+    (b c : Book) (gs : List ℕ) → c .change ≤ b .change →
+    ((k : ℕ) → k < length (b .kinds) → (j : ℕ) × (j < length (c .kinds)) × (kind-at c j .ticks ≡ kind-at b k .ticks) × (kind-at c j .weight ≤ kind-at b k .weight)) →
     ((t : ℕ) → t < length (b .tempi) → (u : ℕ) × (u < length (c .tempi)) × (tempo-at c u ≡ tempo-at b t)) → least c 0 gs ≤ least b 0 gs
 
--- 6. A tap a little off costs little: if one tap comes x later, between its neighbours, the least is at most 24 times x more or less
+-- 6. A tap a little off costs little: if one tap comes x later, the least is at most 24 times x more or less
 unfoldable pub moved : ℕ → ℕ → List ℕ → List ℕ
 moved x i [] = []
 moved x zero (t ∷ ts) = (t + x) ∷ ts
 moved x (suc i) (t ∷ ts) = t ∷ moved x i ts
 
-unfoldable pub rises : List ℕ → Bool
-rises [] = true
-rises (t ∷ []) = true
-rises (t ∷ (u ∷ us)) = ltb t u && rises (u ∷ us)
-
 unfoldable pub A-little-off : Type 0
 A-little-off =
-    (b : Book) (ts : List ℕ) (i x : ℕ) → Good-book b → rises ts ≡ true → rises (moved x i ts) ≡ true → length ts ≤ 256 → small (gaps ts) ≡ true → small (gaps (moved x i ts)) ≡ true →
+    (b : Book) (ts : List ℕ) (i x : ℕ) →
     (least b 0 (gaps (moved x i ts)) ≤ least b 0 (gaps ts) + 24 * x) × (least b 0 (gaps ts) ≤ least b 0 (gaps (moved x i ts)) + 24 * x)

@@ -1,6 +1,6 @@
 -- What a decoder found, by the definitions of the formats.
 use mathlib.Core.Path.{_≡_, refl, sym, ap, _∙_}
-use mathlib.Core.Bool.{true, _&&_}
+use mathlib.Core.Bool.{Bool, true, _&&_}
 use mathlib.Core.List.{List, [], _∷_, map}
 use Prim.Native.Nat.{ℕ, _+_, _*_}
 use native.Mathlib.Omega.{arith}
@@ -22,7 +22,8 @@ use Rattle.taps.specs.declared.call.Call.{Call}
 use Rattle.taps.specs.declared.read.Read.{Read}
 use Rattle.taps.specs.declared.refusal.Refusal.{Refusal}
 use Rattle.octets.specs.Bytes.{number, chunks}
-use Rattle.octets.proofs.Found.{mapped-found, pick-both}
+use Rattle.taps.proofs.Picks.{pick-both}
+use Rattle.octets.proofs.Found.{mapped-found}
 use Rattle.wire.specs.Wire.{alone, call-in, all-in-place, read-bytes, read-in, refused-in, reads-in}
 
 -- what is written of a read
@@ -59,6 +60,7 @@ By-one r = results.Cases r (λ c. Unit {0}) (λ e. number-of e ≡ 1)
 pub refused-by-one : (bs : List ℕ) → By-one (call-in bs)
 refused-by-one [] = refl
 refused-by-one (first ∷ rest) =
-    let lone : (c : Call) → By-one (alone c rest) = λ c. pick-both By-one (eqb (length rest) 0) _ _ tt refl in
-    pick-both By-one (eqb first 0) _ _ (pick-both By-one (eqb (length rest) 4) _ _ tt refl)
-    (pick-both By-one (eqb first 1) _ _ (lone _) (pick-both By-one (eqb first 2) _ _ (lone _) (pick-both By-one (eqb first 3) _ _ (lone _) refl)))
+    let either : (t : Bool) (x y : _) → By-one x → By-one y → By-one (pick t x y) = λ t x y p q. pick-both By-one t x y (λ _. p) (λ _. q) in
+    let lone : (c : Call) → By-one (alone c rest) = λ c. either (eqb (length rest) 0) _ _ tt refl in
+    either (eqb first 0) _ _ (either (eqb (length rest) 4) _ _ tt refl)
+    (either (eqb first 1) _ _ (lone _) (either (eqb first 2) _ _ (lone _) (either (eqb first 3) _ _ (lone _) refl)))
