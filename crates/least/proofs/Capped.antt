@@ -9,8 +9,9 @@ use Rattle.std.specs.declared.option.Option.{Option}
 use Rattle.std.specs.declared.option.Option.the-variants.{Some, None}
 use Rattle.std.proofs.shelf.Tests.{cases-lt}
 use Rattle.std.proofs.shelf.Ways.{tells}
-use Rattle.least.specs.Minima.{Least-from, No-more, plus, capped, hits, over, Among}
+use Rattle.least.specs.Minima.{No-more, plus, capped, hits, over, Among}
 use Rattle.least.proofs.Minimal.{Within, plus-some, over-under, over-found}
+use Rattle.least.proofs.Folds.{Least-from}
 
 capped-below : (most : ℕ) (m : Option ℕ) → capped most m ≤ most
 capped-below most None = omega arith

@@ -8,7 +8,13 @@ use native.Mathlib.Omega.{arith}
 use lib.ListN.{getD}
 use Rattle.std.specs.declared.option.Option.the-variants.{Some}
 use Rattle.std.proofs.shelf.Tests.{cases-lt}
-use Rattle.least.specs.Minima.{Least, Least-from, Below, At, First-below}
+use Rattle.least.specs.Minima.{Least, Below, At, First-below}
+
+-- m is the least of a and of the numbers that P holds of: what a loop finds that starts with a
+pub record Least-from (P : ℕ → Type 0) (a m : ℕ) : Type 0 where
+  pub below : m ≤ a
+  pub under : (v : ℕ) → P v → m ≤ v
+  pub found : (m ≡ a) ⊎ P m
 
 from-none : (P : ℕ → Type 0) (a : ℕ) → ((v : ℕ) → P v → ⊥) → Least-from P a a
 from-none P a none = record { below = omega arith; under = λ v p. absurd (none v p); found = inl refl }

@@ -132,7 +132,7 @@ over-least f xs P each =
     within-more (over f xs) (u .0) v (no-more-some (over f xs) (f x) (u .0) (over-under f x xs (h .1)) (u .1)) (u .2))
 
 -- ---- the first of a list
-pub record First {A : Type 0} (t : A → Bool) (xs : List A) (x : A) : Type 0 where
+record First {A : Type 0} (t : A → Bool) (xs : List A) (x : A) : Type 0 where
   pub is : first t xs ≡ Some x
   pub among : Among x xs
   pub passes : t x ≡ true

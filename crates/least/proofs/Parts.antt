@@ -40,7 +40,7 @@ module _ {G S C : Type 0} (r : Reader G S C) where
   total-join s (g ∷ gs) hs [] ds i = absurd i
   total-join s (g ∷ gs) hs (c ∷ cs) ds i = omega (arith, total-join (r .next s g c) gs hs cs ds (i .1))
 
-  -- of two readings that go on alike, the one comes first whose beginning does
+  -- of two readings the one that comes first has the beginning that comes first
   comes-front : (s : S) (gs hs : List G) (cs ds es fs : List C) → Reads r s gs cs → Reads r s gs ds → Comes-first r s (gs ++ hs) (cs ++ es) (ds ++ fs) → Comes-first r s gs cs ds
   comes-front s [] hs cs ds es fs i j p = tt
   comes-front s (g ∷ gs) hs [] ds es fs i j p = absurd i

@@ -2,7 +2,6 @@
 --
 -- A cost is an `Option ℕ`: a number, or None where there is nothing to choose from, which is more than any number.
 -- Least P m: m is the least number that P holds of; None where it holds of none.
--- Least-from P a m: m is the least of a and of the numbers that P holds of: what a loop finds that starts with a.
 -- Among x xs: x stands in the list. Sooner x y xs: from the front on, x is met before y or with it.
 use mathlib.Core.Path.{_≡_}
 use mathlib.Core.Bool.{Bool, false, cond}
@@ -17,11 +16,6 @@ use Rattle.std.specs.declared.option.Option.the-variants.{Some, None}
 abbrev pub Least : (ℕ → Type 0) → Option ℕ → Type 0
 Least P None = (v : ℕ) → P v → ⊥
 Least P (Some m) = P m × ((v : ℕ) → P v → m ≤ v)
-
-pub record Least-from (P : ℕ → Type 0) (a m : ℕ) : Type 0 where
-  pub below : m ≤ a
-  pub under : (v : ℕ) → P v → m ≤ v
-  pub found : (m ≡ a) ⊎ P m
 
 -- the cost m is no more than the cost n
 abbrev pub No-more : Option ℕ → Option ℕ → Type 0

@@ -39,7 +39,7 @@ tempo-good (t ∷ (u ∷ us)) zero h =
 tempo-good (t ∷ (u ∷ us)) (suc i) h = tempo-good (u ∷ us) i (and-parts (leb 100 t && ltb t u) (good-tempi (u ∷ us)) h .1)
 
 -- 2^29: more than a gap costs
-abbrev pub per : ℕ
+abbrev per : ℕ
 per = 536870912
 
 bound : (x y w v : ℕ) → x < 16777216 → y ≤ 384000 → w < 16777216 → v ≤ 262140000 → (apart (12 * x) y + w) + v ≤ per

@@ -11,9 +11,9 @@ use Rattle.std.specs.Options.{valueOr, orOther}
 use Rattle.std.specs.declared.option.Option.{Option}
 use Rattle.std.specs.declared.option.Option.the-variants.{Some, None}
 use Rattle.std.proofs.shelf.Tests.{cases-lt, leb-true, leb-false}
-use Rattle.least.specs.Minima.{Least-from, Below, first, joined, Among, Sooner}
+use Rattle.least.specs.Minima.{Below, first, joined, Among, Sooner}
 use Rattle.least.proofs.Minimal.{first-among, first-append}
-use Rattle.least.proofs.Folds.{from-one, from-fold}
+use Rattle.least.proofs.Folds.{Least-from, from-one, from-fold}
 use Rattle.least.proofs.Lists.{map-from, pairs-from, pairs-have, pairs-first, pairs-second}
 use Rattle.taps.specs.Readings.{pick, Book, Read, costs, lesser, over-tempi, over-kinds, first-tempo, first-read}
 use Rattle.taps.specs.Plain.{counted, read, all-reads}

@@ -110,15 +110,17 @@ plain-stands b before gs =
 
 pub finite-stands : Finite
 unfolding Finite
-finite-stands b =
-    record {
-      all = counted 0 (suc (length (b .tempi)));
-      same = eqb;
-      same-is = eqb-true;
-      is-same = λ s. eq-eqb s s refl;
-      starts-in = λ s a. elim a [ inl e ↦ counted-has s 0 (suc (length (b .tempi))) (omega arith) (omega arith) | inr none ↦ absurd none ];
-      next-in = λ s g r a i. counted-has (suc (r .tempo)) 0 (suc (length (b .tempi))) (omega arith) (omega (arith, reads-in b r i .1));
-    }
+finite-stands b = (
+  record {
+    all = counted 0 (suc (length (b .tempi)));
+    same = eqb;
+    same-is = eqb-true;
+    is-same = λ s. eq-eqb s s refl;
+    starts-in = λ s a. elim a [ inl e ↦ counted-has s 0 (suc (length (b .tempi))) (omega arith) (omega arith) | inr none ↦ absurd none ];
+    next-in = λ s g r a i. counted-has (suc (r .tempo)) 0 (suc (length (b .tempi))) (omega arith) (omega (arith, reads-in b r i .1));
+  },
+  refl,
+)
 
 -- the costs of a list's members, by two names
 over-same : {A : Type 0} (f h : A → ℕ) → ((x : A) → f x ≡ h x) → (xs : List A) → (over (λ x. Some (f x)) xs ≡ over (λ x. Some (h x)) xs) × (cheapest (λ x. Some (f x)) xs ≡ cheapest (λ x. Some (h x)) xs)

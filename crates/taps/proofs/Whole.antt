@@ -24,7 +24,7 @@ none-better b before gs rs n i =
     omega (arith, same-least b before gs, same-total b before gs rs, capped-within too-much _ _ (best.none-better (plain b) before gs rs (book-reads b before gs rs n i)))
 
 -- the general reader's first best reading is the one told
-pub told-best : (b : Book) (before : ℕ) (gs : List ℕ) → least b before gs < too-much →
+told-best : (b : Book) (before : ℕ) (gs : List ℕ) → least b before gs < too-much →
     Told-best (told (plain b) before gs) (Reads (plain b) before gs) (total (plain b) before gs) (Comes-first (plain b) before gs) (least b before gs) (reading b before gs)
 told-best b before gs small =
     let same = same-least b before gs in

@@ -40,7 +40,7 @@ Plain = (b : Book) (before : ℕ) (gs : List ℕ) → Same b before gs
 
 -- its states are finitely many: no tempo before, or one of the book's
 unfoldable pub Finite : Type 0
-Finite = (b : Book) → States (plain b)
+Finite = (b : Book) → (st : States (plain b)) × (st .all ≡ counted 0 (suc (length (b .tempi))))
 
 -- the same by trying all readings in their order
 unfoldable pub Tried : Type 0

@@ -21,8 +21,8 @@ use Rattle.taps.specs.Values.{read-of, listed, number-of, place-of}
 use Rattle.taps.specs.declared.call.Call.{Call}
 use Rattle.taps.specs.declared.read.Read.{Read}
 use Rattle.taps.specs.declared.refusal.Refusal.{Refusal}
-use Rattle.octets.specs.Bytes.{number, chunks}
 use Rattle.taps.proofs.Picks.{pick-both}
+use Rattle.octets.specs.Bytes.{number, chunks}
 use Rattle.octets.proofs.Found.{mapped-found}
 use Rattle.wire.specs.Wire.{alone, call-in, all-in-place, read-bytes, read-in, refused-in, reads-in}
 

@@ -5,8 +5,8 @@ use native.Mathlib.Omega.{arith}
 use lib.ListN.{length, getD}
 use borrow.Author.Needs.{needs}
 use borrow.Author.Tests.{ltb-true}
-use Rattle.least.specs.Minima.{Least-from, Entry}
-use Rattle.least.proofs.Folds.{below-none, entry-more, from-member}
+use Rattle.least.specs.Minima.{Entry}
+use Rattle.least.proofs.Folds.{Least-from, below-none, entry-more, from-member}
 use Rattle.least.proofs.least_of.Needs as need
 
 pub loop-x-holds : need.loop-x-holds

@@ -1,5 +1,6 @@
 use lib.ListN.{getD}
-use Rattle.least.specs.Minima.{Least-from, Below, At}
+use Rattle.least.specs.Minima.{Below, At}
+use Rattle.least.proofs.Folds.{Least-from}
 use Rattle.least.proofs.least_of.Given as given
 
 abbrev pub Inv-loop-x : given.InvT-loop-x
