@@ -11,31 +11,31 @@ use Rattle.answers.specs.Answered.{heard, Unanswered}
 use Rattle.answers.proofs.Told.{garbled_keeps, garbled_told, answered_by}
 use Rattle.answers.proofs.answer_bytes.Goals as goal
 
-pub returns-in-err-answer : goal.returns-in-err-answer
-returns-in-err-answer c =
+pub returns-in_err-answer : goal.returns-in_err-answer
+returns-in_err-answer c =
     let ws : List ℕ = c.args.words.now in
     let is : call_of c.in-Ok.call ≡ heard (call_in c.args.request.now) = ap heard c.in-Ok.ensures in
-    let left : _ ≡ words_after ws (heard (call_in c.args.request.now)) = c.in-err-answer.ensures.after ∙ ap (words_after ws) is in
+    let left : _ ≡ words_after ws (heard (call_in c.args.request.now)) = c.in_err-answer.ensures.after ∙ ap (words_after ws) is in
     record {
       after = left;
       taps = stands ws _ _ left;
-      value = inl (subst (λ (k : calls.Call). Unanswered (taps_in ws) k) is c.in-err-answer.ensures.value, c.from-residual.ensures, refl);
-      bound = subst (λ (r : Option ℕ). IfSome r (λ n. n ≤ length c.args.out.now)) (sym c.from-residual.ensures) tt;
+      value = inl (subst (λ (k : calls.Call). Unanswered (taps_in ws) k) is c.in_err-answer.ensures.value, c.from_residual.ensures, refl);
+      bound = subst (λ (r : Option ℕ). IfSome r (λ n. n ≤ length c.args.out.now)) (sym c.from_residual.ensures) tt;
     }
 
-pub returns-in-ok-answer : goal.returns-in-ok-answer
-returns-in-ok-answer c =
+pub returns-in_ok-answer : goal.returns-in_ok-answer
+returns-in_ok-answer c =
     let ws : List ℕ = c.args.words.now in
     let is : call_of c.in-Ok.call ≡ heard (call_in c.args.request.now) = ap heard c.in-Ok.ensures in
-    let left : _ ≡ words_after ws (heard (call_in c.args.request.now)) = c.in-ok-answer.ensures.after ∙ ap (words_after ws) is in
-    let bytes : List ℕ = answer_bytes (answer_of c.in-ok-answer.answer) in
-    let told = c.encode-answer.ensures in
+    let left : _ ≡ words_after ws (heard (call_in c.args.request.now)) = c.in_ok-answer.ensures.after ∙ ap (words_after ws) is in
+    let bytes : List ℕ = answer_bytes (answer_of c.in_ok-answer.answer) in
+    let told = c.encode_answer.ensures in
     record {
       after = left;
       taps = stands ws _ _ left;
       value =
           answered_by (limit_of ws) (taps_in ws) (heard (call_in c.args.request.now)) bytes c.args.out.now _ _ told.value told.after
-          (λ b. ap answer_bytes (c.in-ok-answer.ensures.value b ∙ ap (answer b (limit_of ws) (taps_in ws)) is));
+          (λ b. ap answer_bytes (c.in_ok-answer.ensures.value b ∙ ap (answer b (limit_of ws) (taps_in ws)) is));
       bound = room_fits bytes c.args.out.now _ told.value;
     }
 
@@ -46,7 +46,7 @@ returns-in-Err c =
     let left : ws ≡ words_after ws (heard (call_in c.args.request.now)) = garbled_keeps ws _ ∙ ap (words_after ws) is in
     let one : number_of c.in-Err.refusal ≡ 1 = subst ByOne (sym c.in-Err.ensures) (refused_by_one c.args.request.now) in
     let bytes : List ℕ = answer_bytes (refused (number_of c.in-Err.refusal) (place_of c.in-Err.refusal)) in
-    let told = c.encode-answer-in-Err.ensures in
+    let told = c.encode_answer-in-Err.ensures in
     record {
       after = left;
       taps = stands ws ws _ left;

@@ -23,11 +23,11 @@ pub returns-in-Back : goal.returns-in-Back
 returns-in-Back c =
     let ws : List ℕ = c.args.words.now in
     let is : back ≡ call_of c.args.call = ap call_of (sym c.in-Back.is) in
-    let left : _ ≡ words_after ws (call_of c.args.call) = c.take-back.ensures.after ∙ ap (words_after ws) is in
+    let left : _ ≡ words_after ws (call_of c.args.call) = c.take_back.ensures.after ∙ ap (words_after ws) is in
     record {
       after = left;
       taps = stands ws _ _ left;
-      value = λ b. told_is (limit_of ws) (taps_in ws) back _ _ _ c.take-back.ensures.value c.told-in-Back.ensures back_place (back_told (taps_in ws)) b ∙ ap (answer b (limit_of ws) (taps_in ws)) is;
+      value = λ b. told_is (limit_of ws) (taps_in ws) back _ _ _ c.take_back.ensures.value c.told-in-Back.ensures back_place (back_told (taps_in ws)) b ∙ ap (answer b (limit_of ws) (taps_in ws)) is;
     }
 
 pub returns-in-Cost : goal.returns-in-Cost
@@ -37,7 +37,7 @@ returns-in-Cost c =
     record {
       after = left;
       taps = stands ws ws _ left;
-      value = subst (λ (k : Call). Answered (limit_of ws) (taps_in ws) k c.without-gaps.result) (sym c.in-Cost.is) (cost_answered (limit_of ws) (taps_in ws) _ c.without-gaps.ensures);
+      value = subst (λ (k : Call). Answered (limit_of ws) (taps_in ws) k c.without_gaps.result) (sym c.in-Cost.is) (cost_answered (limit_of ws) (taps_in ws) _ c.without_gaps.ensures);
     }
 
 pub returns-in-Read : goal.returns-in-Read
@@ -47,5 +47,5 @@ returns-in-Read c =
     record {
       after = left;
       taps = stands ws ws _ left;
-      value = subst (λ (k : Call). Answered (limit_of ws) (taps_in ws) k c.without-gaps-in-Read.result) (sym c.in-Read.is) (read_answered (limit_of ws) (taps_in ws) _ _ refl c.without-gaps-in-Read.ensures);
+      value = subst (λ (k : Call). Answered (limit_of ws) (taps_in ws) k c.without_gaps-in-Read.result) (sym c.in-Read.is) (read_answered (limit_of ws) (taps_in ws) _ _ refl c.without_gaps-in-Read.ensures);
     }

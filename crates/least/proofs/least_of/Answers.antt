@@ -12,6 +12,6 @@ loop-x-preserved c = search (rules, entry_more)
 pub returns : goal.returns
 returns c =
     let end : c.loop-x.x-index ≡ length c.args.row.now = omega arith in
-    let some : 0 < length c.args.row.now = ltb-true 0 _ (sym {a = true} c.in-ok-least.ensures.item.0) in
+    let some : 0 < length c.args.row.now = ltb-true 0 _ (sym {a = true} c.in_ok-least.ensures.item.0) in
     let all : LeastFrom (Entry c.args.row.now) (get_or c.args.row.now 0 0) c.loop-x.least = rw end at c.loop-x.invariant in
     from_member (Entry c.args.row.now) _ c.loop-x.least (0, some, refl) all

@@ -9,7 +9,7 @@ returns-in-Some c =
     let is = last_told (taps_in c.args.words.now) c.in-Some.last c.in-Some.ensures in
     grind (arith, nat_tests, is.0, is.1)
 
-pub returns-in-default : goal.returns-in-default
-returns-in-default c =
+pub returns-in_default : goal.returns-in_default
+returns-in_default c =
     let is = last_told (taps_in c.args.words.now) c.in-Some.last c.in-Some.ensures in
     (refl, grind (arith, nat_tests, is.0, is.1))

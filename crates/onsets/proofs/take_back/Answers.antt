@@ -5,10 +5,10 @@ use Rattle.onsets.specs.Onsets.{limit_of, taps_in, words_after}
 use Rattle.onsets.proofs.Words.{stands}
 use Rattle.onsets.proofs.take_back.Goals as goal
 
-pub returns-in-default : goal.returns-in-default
-returns-in-default c =
+pub returns-in_default : goal.returns-in_default
+returns-in_default c =
     let ws : List ℕ = c.args.words.now in
-    let refused = back_refused (limit_of ws) (taps_in ws) (omega (arith, c.in-default.ensures)) in
+    let refused = back_refused (limit_of ws) (taps_in ws) (omega (arith, c.in_default.ensures)) in
     let left : ws ≡ words_after ws back = where_refused _ _ _ refused in
     record { after = left; taps = stands ws ws back left; value = (refused, refl) }
 

@@ -10,17 +10,17 @@ use Rattle.octets.proofs.Found.{found, not_found, found_is, not_found_is, weaker
 use Rattle.books.specs.Books.{good_kind, kind_in}
 use Rattle.books.proofs.book.decode_kinds.Goals as goal
 
-pub returns-in-err-all : goal.returns-in-err-all
+pub returns-in_err-all : goal.returns-in_err-all
 unfolding good_kinds
-returns-in-err-all c =
-    let bad = not_found_is _ _ c.in-err-all.ensures in
-    not_found kinds_of _ _ _ c.from-residual.ensures (and_right _ _ (piece_fails good_kind good_kinds (λ _ _. refl) kind_in 5 c.args.count c.loop-i.i c.args.bytes.now (omega arith) bad))
+returns-in_err-all c =
+    let bad = not_found_is _ _ c.in_err-all.ensures in
+    not_found kinds_of _ _ _ c.from_residual.ensures (and_right _ _ (piece_fails good_kind good_kinds (λ _ _. refl) kind_in 5 c.args.count c.loop-i.i c.args.bytes.now (omega arith) bad))
 
 pub loop-i-preserved : goal.loop-i-preserved
 loop-i-preserved c = (
   length-set _ _ _ ∙ c.loop-i.invariant.0,
   filled_more kind_of kind_in 5 c.loop-i.i c.loop-i.all c.args.bytes.now _ (omega (arith, c.loop-i.invariant.0)) c.loop-i.invariant.1
-      (found_is _ _ _ c.in-ok-all.ensures),
+      (found_is _ _ _ c.in_ok-all.ensures),
 )
 
 pub returns : goal.returns

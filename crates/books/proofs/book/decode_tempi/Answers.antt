@@ -11,7 +11,7 @@ use Rattle.books.proofs.book.decode_tempi.Goals as goal
 pub loop-i-preserved : goal.loop-i-preserved
 loop-i-preserved c = (
   length-set _ _ _ ∙ c.loop-i.invariant.0,
-  filled_more (λ t. t) number 2 c.loop-i.i c.loop-i.all c.args.bytes.now _ (omega (arith, c.loop-i.invariant.0)) c.loop-i.invariant.1 c.decode-two.ensures,
+  filled_more (λ t. t) number 2 c.loop-i.i c.loop-i.all c.args.bytes.now _ (omega (arith, c.loop-i.invariant.0)) c.loop-i.invariant.1 c.decode_two.ensures,
 )
 
 pub returns : goal.returns

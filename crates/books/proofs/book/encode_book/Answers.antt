@@ -10,17 +10,17 @@ use Rattle.books.proofs.book.encode_book.Goals as goal
 
 pub returns-then-out-size : goal.returns-then-out-size
 returns-then-out-size c =
-    let many : length (kinds_of c.args.book.now.kinds) ≡ length c.as-slice-kinds.result.now = length-map _ kind_of ∙ ap length (sym c.as-slice-kinds.ensures) in
-    let few : length (tempi_of c.args.book.now.tempi) ≡ length c.as-slice-tempi.result.now = ap length (sym c.as-slice-tempi.ensures) in
+    let many : length (kinds_of c.args.book.now.kinds) ≡ length c.as_slice-kinds.result.now = length-map _ kind_of ∙ ap length (sym c.as_slice-kinds.ensures) in
+    let few : length (tempi_of c.args.book.now.tempi) ≡ length c.as_slice-tempi.result.now = ap length (sym c.as_slice-tempi.ensures) in
     let told = none_written c.args.out.now (book_bytes (book_of c.args.book.now)) _ (length_book (book_of c.args.book.now) _ _ many few) (omega arith) in
     record { value = told.0; after = told.1 }
 
 pub returns : goal.returns
 returns c =
-    let many : length (kinds_of c.args.book.now.kinds) ≡ length c.as-slice-kinds.result.now = length-map _ kind_of ∙ ap length (sym c.as-slice-kinds.ensures) in
-    let few : length (tempi_of c.args.book.now.tempi) ≡ length c.as-slice-tempi.result.now = ap length (sym c.as-slice-tempi.ensures) in
-    let kinds : c.put-kinds.new.out ≡ flat_map kind_bytes (kinds_of c.args.book.now.kinds) = c.put-kinds.ensures ∙ ap (λ l. flat_map kind_bytes (map kind_of l)) c.as-slice-kinds.ensures in
-    let tempi : c.put-tempi.new.out ≡ flat_map two (tempi_of c.args.book.now.tempi) = c.put-tempi.ensures ∙ ap (flat_map two) c.as-slice-tempi.ensures in
-    let change : c.copy-from-slice.new.self ≡ four c.args.book.now.change = search rules in
+    let many : length (kinds_of c.args.book.now.kinds) ≡ length c.as_slice-kinds.result.now = length-map _ kind_of ∙ ap length (sym c.as_slice-kinds.ensures) in
+    let few : length (tempi_of c.args.book.now.tempi) ≡ length c.as_slice-tempi.result.now = ap length (sym c.as_slice-tempi.ensures) in
+    let kinds : c.put_kinds.new.out ≡ flat_map kind_bytes (kinds_of c.args.book.now.kinds) = c.put_kinds.ensures ∙ ap (λ l. flat_map kind_bytes (map kind_of l)) c.as_slice-kinds.ensures in
+    let tempi : c.put_tempi.new.out ≡ flat_map two (tempi_of c.args.book.now.tempi) = c.put_tempi.ensures ∙ ap (flat_map two) c.as_slice-tempi.ensures in
+    let change : c.copy_from_slice.new.self ≡ four c.args.book.now.change = search rules in
     let told = book_written c.args.out.now (book_of c.args.book.now) _ _ _ _ _ many few kinds tempi change (omega arith) in
     record { value = told.0; after = told.1 }

@@ -7,9 +7,9 @@ use Rattle.books.proofs.book.put_kinds.Goals as goal
 
 pub loop-kind-preserved : goal.loop-kind-preserved
 loop-kind-preserved c =
-    let here : c.copy-from-slice.new.self ≡ kind_out c.kind-item.result = search rules in (
+    let here : c.copy_from_slice.new.self ≡ kind_out c.kind-item.result = search rules in (
       omega (arith, c.loop-kind.invariant.0),
-      put_more kind_out 5 (λ _. refl) c.loop-kind.kind-index c.loop-kind.at c.args.kinds.now c.args.out.now c.loop-kind.out c.copy-from-slice.new.self c.kind-item.result
+      put_more kind_out 5 (λ _. refl) c.loop-kind.kind-index c.loop-kind.at c.args.kinds.now c.args.out.now c.loop-kind.out c.copy_from_slice.new.self c.kind-item.result
           c.loop-kind.invariant.0 (omega arith) c.loop-kind.invariant.1 (here ∙ ap kind_out c.kind-item.is),
     )
 

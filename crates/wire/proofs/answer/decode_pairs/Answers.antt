@@ -9,16 +9,16 @@ use Rattle.wire.specs.Wire.{in_place, all_in_place, read_in}
 use Rattle.wire.proofs.Told.{each_in_place}
 use Rattle.wire.proofs.answer.decode_pairs.Goals as goal
 
-pub returns-in-err-all : goal.returns-in-err-all
-returns-in-err-all c =
-    let bad = not_found_is _ _ c.in-err-all.ensures in
-    not_found reading_of _ _ _ c.from-residual.ensures (and_right _ _ (piece_fails in_place all_in_place (λ _ _. refl) read_in 2 c.args.count c.loop-i.i c.args.pairs.now (omega arith) bad))
+pub returns-in_err-all : goal.returns-in_err-all
+returns-in_err-all c =
+    let bad = not_found_is _ _ c.in_err-all.ensures in
+    not_found reading_of _ _ _ c.from_residual.ensures (and_right _ _ (piece_fails in_place all_in_place (λ _ _. refl) read_in 2 c.args.count c.loop-i.i c.args.pairs.now (omega arith) bad))
 
 pub loop-i-preserved : goal.loop-i-preserved
 loop-i-preserved c = (
   length-set _ _ _ ∙ c.loop-i.invariant.0,
   filled_more read_of read_in 2 c.loop-i.i c.loop-i.all c.args.pairs.now _ (omega (arith, c.loop-i.invariant.0)) c.loop-i.invariant.1
-      (found_is _ _ _ c.in-ok-all.ensures),
+      (found_is _ _ _ c.in_ok-all.ensures),
 )
 
 pub returns : goal.returns

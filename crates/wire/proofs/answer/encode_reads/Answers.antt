@@ -11,14 +11,14 @@ use Rattle.wire.proofs.answer.encode_reads.Goals as goal
 
 pub returns-then-out-size : goal.returns-then-out-size
 returns-then-out-size c =
-    let long : length (reading_of c.args.reading.now) ≡ length c.as-slice-reads.result.now = length-map _ read_of ∙ ap length (sym c.as-slice-reads.ensures) in
+    let long : length (reading_of c.args.reading.now) ≡ length c.as_slice-reads.result.now = length-map _ read_of ∙ ap length (sym c.as_slice-reads.ensures) in
     let told = none_written c.args.out.now (answer_bytes (reads (reading_of c.args.reading.now))) _ (length_reads (reading_of c.args.reading.now) _ long) (omega arith) in
     record { value = told.0; after = told.1 }
 
 pub returns : goal.returns
 returns c =
-    let long : length (reading_of c.args.reading.now) ≡ length c.as-slice-reads.result.now = length-map _ read_of ∙ ap length (sym c.as-slice-reads.ensures) in
-    let count : c.copy-from-slice.new.self ≡ two (length c.as-slice-reads.result.now) = search rules in
-    let pairs : c.put-reads.new.out ≡ flat_map read_bytes (reading_of c.args.reading.now) = c.put-reads.ensures ∙ ap (λ l. flat_map read_bytes (map read_of l)) c.as-slice-reads.ensures in
+    let long : length (reading_of c.args.reading.now) ≡ length c.as_slice-reads.result.now = length-map _ read_of ∙ ap length (sym c.as_slice-reads.ensures) in
+    let count : c.copy_from_slice.new.self ≡ two (length c.as_slice-reads.result.now) = search rules in
+    let pairs : c.put_reads.new.out ≡ flat_map read_bytes (reading_of c.args.reading.now) = c.put_reads.ensures ∙ ap (λ l. flat_map read_bytes (map read_of l)) c.as_slice-reads.ensures in
     let told = reads_written c.args.out.now (reading_of c.args.reading.now) _ _ _ long count pairs (omega arith) in
     record { value = told.0; after = told.1 }

@@ -7,9 +7,9 @@ use Rattle.wire.proofs.answer.put_reads.Goals as goal
 
 pub loop-read-preserved : goal.loop-read-preserved
 loop-read-preserved c =
-    let here : c.copy-from-slice.new.self ≡ read_out c.read-item.result = search rules in (
+    let here : c.copy_from_slice.new.self ≡ read_out c.read-item.result = search rules in (
       omega (arith, c.loop-read.invariant.0),
-      put_more read_out 2 (λ _. refl) c.loop-read.read-index c.loop-read.at c.args.reads.now c.args.out.now c.loop-read.out c.copy-from-slice.new.self c.read-item.result
+      put_more read_out 2 (λ _. refl) c.loop-read.read-index c.loop-read.at c.args.reads.now c.args.out.now c.loop-read.out c.copy_from_slice.new.self c.read-item.result
           c.loop-read.invariant.0 (omega arith) c.loop-read.invariant.1 (here ∙ ap read_out c.read-item.is),
     )
 

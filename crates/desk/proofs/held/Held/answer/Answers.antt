@@ -29,7 +29,7 @@ returns-in-Cost c =
     let ts : List ℕ = vec_items c.args.self.now.times in
     record {
       after = cost_keeps 256 ts ∙ ap (λ k. after 256 ts (call_of k)) (sym c.in-Cost.is);
-      value = subst (λ (k : Call). Answered 256 ts k c.without-gaps.result) (sym c.in-Cost.is) (cost_answered 256 ts _ c.without-gaps.ensures);
+      value = subst (λ (k : Call). Answered 256 ts k c.without_gaps.result) (sym c.in-Cost.is) (cost_answered 256 ts _ c.without_gaps.ensures);
     }
 
 pub returns-in-Read : goal.returns-in-Read
@@ -37,5 +37,5 @@ returns-in-Read c =
     let ts : List ℕ = vec_items c.args.self.now.times in
     record {
       after = read_keeps 256 ts ∙ ap (λ k. after 256 ts (call_of k)) (sym c.in-Read.is);
-      value = subst (λ (k : Call). Answered 256 ts k c.without-gaps-in-Read.result) (sym c.in-Read.is) (read_answered 256 ts _ _ refl c.without-gaps-in-Read.ensures);
+      value = subst (λ (k : Call). Answered 256 ts k c.without_gaps-in-Read.result) (sym c.in-Read.is) (read_answered 256 ts _ _ refl c.without_gaps-in-Read.ensures);
     }

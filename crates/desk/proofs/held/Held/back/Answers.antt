@@ -4,9 +4,9 @@ use Rattle.taps.specs.Calls.{back, changed}
 use Rattle.taps.proofs.Turned.{but_last_is, back_refused, back_taken, after_refused, after_taken}
 use Rattle.desk.proofs.held.Held.back.Goals as goal
 
-pub returns-in-default : goal.returns-in-default
-returns-in-default c =
-    let popped = c.in-default.ensures in
+pub returns-in_default : goal.returns-in_default
+returns-in_default c =
+    let popped = c.in_default.ensures in
     let refused = back_refused 256 (vec_items c.args.self.now.times) (omega (arith, popped.cases.0, c.args.self.now.times.ok.0)) in
     record { after = sym (popped.items ∙ append-nil _) ∙ after_refused 256 _ back (omega arith); value = (refused, refl) }
 
