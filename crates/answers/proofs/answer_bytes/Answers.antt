@@ -8,34 +8,34 @@ use Rattle.onsets.proofs.Words.{stands}
 use Rattle.wire.specs.Wire.{answer_bytes, call_in}
 use Rattle.wire.proofs.Told.{ByOne, refused_by_one}
 use Rattle.answers.specs.Answered.{heard, Unanswered}
-use Rattle.answers.proofs.Told.{garbled_keeps, garbled_told, answered_by}
+use Rattle.answers.proofs.Answering.{garbled_keeps, garbled_told, answered_by}
 use Rattle.answers.proofs.answer_bytes.Goals as goal
 
-pub returns-in_err-answer : goal.returns-in_err-answer
-returns-in_err-answer c =
+pub returns-in_err-answer-in-Ok : goal.returns-in_err-answer-in-Ok
+returns-in_err-answer-in-Ok c =
     let ws : List ℕ = c.args.words.now in
     let is : call_of c.in-Ok.call ≡ heard (call_in c.args.request.now) = ap heard c.in-Ok.ensures in
-    let left : _ ≡ words_after ws (heard (call_in c.args.request.now)) = c.in_err-answer.ensures.after ∙ ap (words_after ws) is in
+    let left : _ ≡ words_after ws (heard (call_in c.args.request.now)) = c.in_err-answer-in-Ok.ensures.after ∙ ap (words_after ws) is in
     record {
       after = left;
       taps = stands ws _ _ left;
-      value = inl (subst (λ (k : calls.Call). Unanswered (taps_in ws) k) is c.in_err-answer.ensures.value, c.from_residual.ensures, refl);
+      value = inl (subst (λ (k : calls.Call). Unanswered (taps_in ws) k) is c.in_err-answer-in-Ok.ensures.value, c.from_residual.ensures, refl);
       bound = subst (λ (r : Option ℕ). IfSome r (λ n. n ≤ length c.args.out.now)) (sym c.from_residual.ensures) tt;
     }
 
-pub returns-in_ok-answer : goal.returns-in_ok-answer
-returns-in_ok-answer c =
+pub returns-in_ok-answer-in-Ok : goal.returns-in_ok-answer-in-Ok
+returns-in_ok-answer-in-Ok c =
     let ws : List ℕ = c.args.words.now in
     let is : call_of c.in-Ok.call ≡ heard (call_in c.args.request.now) = ap heard c.in-Ok.ensures in
-    let left : _ ≡ words_after ws (heard (call_in c.args.request.now)) = c.in_ok-answer.ensures.after ∙ ap (words_after ws) is in
-    let bytes : List ℕ = answer_bytes (answer_of c.in_ok-answer.answer) in
+    let left : _ ≡ words_after ws (heard (call_in c.args.request.now)) = c.in_ok-answer-in-Ok.ensures.after ∙ ap (words_after ws) is in
+    let bytes : List ℕ = answer_bytes (answer_of c.in_ok-answer-in-Ok.answer) in
     let told = c.encode_answer.ensures in
     record {
       after = left;
       taps = stands ws _ _ left;
       value =
           answered_by (limit_of ws) (taps_in ws) (heard (call_in c.args.request.now)) bytes c.args.out.now _ _ told.value told.after
-          (λ b. ap answer_bytes (c.in_ok-answer.ensures.value b ∙ ap (answer b (limit_of ws) (taps_in ws)) is));
+          (λ b. ap answer_bytes (c.in_ok-answer-in-Ok.ensures.value b ∙ ap (answer b (limit_of ws) (taps_in ws)) is));
       bound = room_fits bytes c.args.out.now _ told.value;
     }
 

@@ -5,7 +5,7 @@ use Rattle.taps.specs.declared.call.Call.{Call}
 use Rattle.onsets.specs.Onsets.{limit_of, taps_in, words_after}
 use Rattle.onsets.proofs.Words.{stands}
 use Rattle.answers.specs.Answered.{Answered}
-use Rattle.answers.proofs.Told.{told_is, tap_place, back_place, tap_told, back_told, cost_keeps, read_keeps, cost_answered, read_answered}
+use Rattle.answers.proofs.Answering.{told_is, tap_place, back_place, tap_told, back_told, cost_keeps, read_keeps, cost_answered, read_answered}
 use Rattle.answers.proofs.answer_call.Goals as goal
 
 pub returns-in-Tap : goal.returns-in-Tap

@@ -9,27 +9,27 @@ use Rattle.desk.specs.Held.{heard, Unanswered}
 use Rattle.desk.proofs.Answers.{garbled_keeps, garbled_told, answered_by}
 use Rattle.desk.proofs.held.Held.call.Goals as goal
 
-pub returns-in_err-answer : goal.returns-in_err-answer
-returns-in_err-answer c =
+pub returns-in_err-answer-in-Ok : goal.returns-in_err-answer-in-Ok
+returns-in_err-answer-in-Ok c =
     let ts : List ℕ = vec_items c.args.self.now.times in
     let is : call_of c.in-Ok.call ≡ heard (call_in c.args.request.now) = ap heard c.in-Ok.ensures in
     record {
-      after = c.in_err-answer.ensures.after ∙ ap (after 256 ts) is;
-      value = inl (subst (λ (k : calls.Call). Unanswered ts k) is c.in_err-answer.ensures.value, c.from_residual.ensures, refl);
+      after = c.in_err-answer-in-Ok.ensures.after ∙ ap (after 256 ts) is;
+      value = inl (subst (λ (k : calls.Call). Unanswered ts k) is c.in_err-answer-in-Ok.ensures.value, c.from_residual.ensures, refl);
       bound = subst (λ (r : Option ℕ). IfSome r (λ n. n ≤ length c.args.out.now)) (sym c.from_residual.ensures) tt;
     }
 
-pub returns-in_ok-answer : goal.returns-in_ok-answer
-returns-in_ok-answer c =
+pub returns-in_ok-answer-in-Ok : goal.returns-in_ok-answer-in-Ok
+returns-in_ok-answer-in-Ok c =
     let ts : List ℕ = vec_items c.args.self.now.times in
     let is : call_of c.in-Ok.call ≡ heard (call_in c.args.request.now) = ap heard c.in-Ok.ensures in
-    let bytes : List ℕ = answer_bytes (answer_of c.in_ok-answer.answer) in
+    let bytes : List ℕ = answer_bytes (answer_of c.in_ok-answer-in-Ok.answer) in
     let told = c.encode_answer.ensures in
     record {
-      after = c.in_ok-answer.ensures.after ∙ ap (after 256 ts) is;
+      after = c.in_ok-answer-in-Ok.ensures.after ∙ ap (after 256 ts) is;
       value =
           answered_by 256 ts (heard (call_in c.args.request.now)) bytes c.args.out.now _ _ told.value told.after
-          (λ b. ap answer_bytes (c.in_ok-answer.ensures.value b ∙ ap (answer b 256 ts) is));
+          (λ b. ap answer_bytes (c.in_ok-answer-in-Ok.ensures.value b ∙ ap (answer b 256 ts) is));
       bound = room_fits bytes c.args.out.now _ told.value;
     }
 
