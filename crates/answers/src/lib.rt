@@ -2,6 +2,8 @@
 //
 // `specs/Answered.antt` says what a call is answered, where it is answered yet: what the definitions of calls say, for every
 // book. The words after it are those of `onsets`. Read `answer_bytes` first.
+#![tactic(auto)]
+
 ghost use Rattle.std.specs.Prelude.{◌≡◌, ◌<◌, ◌≤◌, length, IfSome, MatchOption};
 ghost use Rattle.taps.specs.Calls.{after};
 ghost use Rattle.taps.specs.Values.{call_of};

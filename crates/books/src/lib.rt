@@ -4,6 +4,8 @@
 // slice of bytes, or that they are none; `encode_book` writes all of a book's bytes and says how many, or, where the
 // lent slice is too small, nothing. `specs/Laws.antt` has what the format promises, and the functions below stand for
 // its proofs. Read `book.rt` first.
+#![tactic(auto)]
+
 ghost use Rattle.books.specs.Laws.{BooksApart, BooksOnly, BooksReturn};
 
 pub mod book;

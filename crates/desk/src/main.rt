@@ -2,6 +2,8 @@
 //
 // `held.rt` holds the taps and answers calls in bytes, and its contracts promise that it does so by the definitions of
 // calls; `line.rt` takes lines apart. What is here reads and prints, and is run and compared.
+#![tactic(auto)]
+
 mod held;
 mod line;
 

@@ -4,6 +4,8 @@
 // has in its contract a law of the general reader (`specs/Readers.antt`), which chooses at each step one of the choices
 // that its state has, at a cost, and goes on in the state after it. Steps, states and choices are of any type, G, S and C;
 // nothing here knows of notes. `specs/Laws.antt` has the laws. Read `told_stands` first.
+#![tactic(auto)]
+
 ghost use Rattle.least.specs.Minima.{Least, Entry, FirstLeast};
 ghost use Rattle.least.specs.Laws.{ToldFrom, Told, Only, Tried, Fewer, Imitates, Meets, Begins};
 

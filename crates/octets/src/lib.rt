@@ -2,6 +2,8 @@
 //
 // What the formats above are made of: `specs/Bytes.antt` defines how numbers and lists are written and read, and what
 // an encoder tells and leaves; `proofs/` has what holds of these at any width. Read `write` first.
+#![tactic(auto)]
+
 ghost use Rattle.std.specs.Prelude.{◌≡◌, length};
 ghost use Rattle.octets.specs.Bytes.{number, room, written};
 

@@ -4,6 +4,8 @@
 // behind the first, and never above 256. `specs/Onsets.antt` says which taps words stand for (`taps_in`) and what a call
 // leaves in every word (`words_after`). Every slice of words stands for some taps, so nothing is asked of the words that
 // are lent: whatever they hold, each function answers by the taps that they stand for. Read `append` first.
+#![tactic(auto)]
+
 ghost use Rattle.std.specs.Prelude.{◌≡◌, ◌+◌, ◌-◌, ◌<◌, ◌≤◌, true, false, [], length, replicate, MatchOption, slice_index};
 ghost use Rattle.std.specs.List.{slice_get};
 ghost use Rattle.taps.specs.Calls.{after, back, gaps, taps};

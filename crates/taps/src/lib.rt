@@ -5,6 +5,8 @@
 // what a call is answered and what is promised; `specs/Values.antt` says which of their values each value here stands for.
 // `specs/Plain.antt` has a book as a general reader of the crate `least`, from whose laws the statements follow: each
 // stands in the contract of a function below, which has no code. Read `book.rt` first.
+#![tactic(auto)]
+
 ghost use Rattle.taps.specs.Plain.{Plain, Finite, Tried};
 ghost use Rattle.taps.specs.Promise.{GoodBook, Least, First, AsWritten, Later, More, ALittleOff};
 ghost use Rattle.taps.specs.Values.{book_of};

@@ -4,7 +4,7 @@ use Rattle.std.specs.List.{flat_map}
 use Rattle.std.proofs.lemmas.List.{append-nil, map-id}
 use Rattle.std.proofs.lemmas.Bool.{eq-eqb, le-leb}
 use Rattle.std.proofs.lemmas.Bool.Decides.{nat_tests}
-use Rattle.taps.specs.Readings.{pick, Read}
+use Rattle.taps.specs.Readings.{pick}
 use Rattle.taps.specs.Calls.{refused, number, reads}
 use Rattle.taps.specs.Values.{listed}
 use Rattle.taps.specs.declared.call.Call.TheVariants as call

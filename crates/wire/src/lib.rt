@@ -4,6 +4,8 @@
 // read as. Each decoder's contract says that its result is that, for every slice of bytes; each encoder's, that it
 // writes all the bytes and says how many, or, where the lent slice is too small, nothing. `specs/Laws.antt` has what
 // the formats promise together, and the functions below stand for its proofs. Read `call.rt` first.
+#![tactic(auto)]
+
 ghost use Rattle.wire.specs.Laws.{AnswersApart, AnswersOnly, AnswersReturn, CallsApart, CallsOnly, CallsReturn};
 
 pub mod answer;
