@@ -12,6 +12,7 @@ use held::Held;
 use line::parse_call;
 use std::fs::File;
 use std::io::{BufRead, BufReader};
+use std::process::ExitCode;
 use std::{env, io};
 use taps::answer::Answer;
 use taps::call::{Call, MOST_TAPS};
@@ -42,12 +43,13 @@ const CALL_SIZE: usize = 5;
 // Two bytes for each tap and 16 more: room for any answer.
 const ANSWER_SIZE: usize = 2 * MOST_TAPS + 16;
 
-fn main(rt: HostRuntime) -> anyhow::Result<()> {
-    let result = run(&rt);
-    if let Err(error) = &result {
-        eprintln!(rt; "desk: {error}")?;
-    }
-    result
+fn main(rt: HostRuntime) -> ExitCode {
+    let Err(error) = run(&rt) else {
+        return ExitCode::SUCCESS;
+    };
+    // Where this can't be written either, the status says it alone.
+    let _ = eprintln!(rt; "desk: {error}");
+    ExitCode::FAILURE
 }
 
 fn run(rt: &HostRuntime) -> anyhow::Result<()> {
