@@ -1,4 +1,4 @@
--- What the program answers, by the definitions of calls. Assumes nothing.
+-- What a call is answered over lent words, by the definitions of calls. Assumes nothing.
 use Rattle.std.specs.Prelude.{◌≡◌, ℕ, ◌≤◌, ◌⊎◌, List, length, Some, None, Ok, Err, Option, Result}
 use Rattle.taps.specs.Readings.{Book}
 use Rattle.taps.specs.Calls as calls
