@@ -1,9 +1,10 @@
 -- The reading told is the first best one, and there is only one such. Assumes nothing.
 use Rattle.std.proofs.Common.{◌≡◌, ℕ, ◌+◌, ◌*◌, ◌≤◌, List, [], ◌∷◌, length, Some, None, Option, sym, refl, ◌∙◌, subst, inl, inr, mul-suc, arith}
+use Rattle.std.proofs.lemmas.Option.{none-some}
 use Rattle.least.specs.Minima.{Among}
 use Rattle.least.specs.Readers.{Reader, Reads, total, suffix, told, ComesFirst, Whole, whole_cost, WholeFirst, least, reading}
 use Rattle.least.specs.Laws.{ToldFrom, Told, Only}
-use Rattle.least.proofs.Minimal.{none_some, Within, within_more, sooner_both}
+use Rattle.least.proofs.Minimal.{Within, within_more, sooner_both}
 use Rattle.least.proofs.Choice.{chosen_within, ToldBest, told_cases, choice_best, choice_none}
 
 module _ {G S C : Type 0} (r : Reader G S C) where
@@ -63,7 +64,7 @@ module _ {G S C : Type 0} (r : Reader G S C) where
 
   pub told_none : (s : S) (gs : List G) → suffix r s gs ≡ None → told r s gs ≡ None
   unfolding suffix told
-  told_none s [] e = absurd (none_some 0 (sym e))
+  told_none s [] e = absurd (none-some 0 (sym e))
   told_none s (g ∷ gs) e = choice_none ◌∷◌ (r.cost s g) (after s g gs) (λ c. told r (r.next s g c) gs) (r.choices s g) e
 
   pub reading_none : (gs : List G) → least r gs ≡ None → reading r gs ≡ None

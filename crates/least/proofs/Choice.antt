@@ -1,8 +1,9 @@
 -- One choice, and then the rest: if the rest is the first best after each choice, the cheapest choice with its rest is the first best of all. Assumes nothing.
 use Rattle.std.proofs.Common.{◌≡◌, ℕ, ◌+◌, List, Some, None, Option, sym, refl, ap, ◌∙◌, subst, arith, MatchOption}
 use Rattle.std.specs.Option.{option_map}
+use Rattle.std.proofs.lemmas.Option.{none-some}
 use Rattle.least.specs.Minima.{Least, Best, plus, over, and_then, cheapest, Among, Sooner}
-use Rattle.least.proofs.Minimal.{none_some, Within, within_more, no_more_some, plus_some, least_from, over_under, cheapest_found, cheapest_none}
+use Rattle.least.proofs.Minimal.{Within, within_more, no_more_some, plus_some, least_from, over_under, cheapest_found, cheapest_none}
 
 -- each choice x costs w x, and `after x` is the least of the rest after it
 module _ {A : Type 0} (w : A → ℕ) (after : A → Option ℕ) (xs : List A) (x : A) (v : ℕ) (member : Among x xs) (within : Within (after x) v) where
@@ -40,7 +41,7 @@ told_least m says Is cost Before under told =
 -- and it is the first best; and where nothing is told there is none
 pub told_cases : {B : Type 0} (m : Option ℕ) (says : Option B) (Is : B → Type 0) (cost : B → ℕ) (Before : B → B → Type 0) → ((b : B) → Is b → Within m (cost b)) → (m ≡ None → says ≡ None) →
     ((v : ℕ) → m ≡ Some v → (b : B) × ToldBest says Is cost Before v b) → MatchOption says ((m ≡ None) × ((b : B) → Is b → ⊥)) (λ b. (m ≡ Some (cost b)) × Best Is cost Before b)
-told_cases None says Is cost Before under none told = rw (none refl) (refl, λ b i. none_some (under b i).0 (under b i).1)
+told_cases None says Is cost Before under none told = rw (none refl) (refl, λ b i. none-some (under b i).0 (under b i).1)
 told_cases (Some m) says Is cost Before under none told =
     let t = told m refl in
     let best : Best Is cost Before t.0 =

@@ -1,16 +1,13 @@
 -- Loops that find a least number: each starts with some number and takes one candidate after the other. Assumes nothing.
-use Rattle.std.proofs.Common.{◌≡◌, ℕ, zero, suc, ◌+◌, ◌<◌, ◌≤◌, min, ◌⊎◌, List, get_or, Some, sym, refl, ap, ◌∙◌, subst, inl, inr, add-one, arith}
+use Rattle.std.proofs.Common.{◌≡◌, ℕ, zero, suc, ◌≤◌, min, ◌⊎◌, sym, refl, ◌∙◌, subst, inl, inr, arith}
 use Rattle.std.proofs.lemmas.Bool.{cases_lt}
-use Rattle.least.specs.Minima.{Least, Below, At, FirstBelow}
+use Rattle.least.specs.Minima.{Below}
 
 -- m is the least of a and of the numbers that P holds of: what a loop finds that starts with a
 pub record LeastFrom (P : ℕ → Type 0) (a m : ℕ) : Type 0 where
   pub below : m ≤ a
   pub under : (v : ℕ) → P v → m ≤ v
   pub found : (m ≡ a) ⊎ P m
-
-from_none : (P : ℕ → Type 0) (a : ℕ) → ((v : ℕ) → P v → ⊥) → LeastFrom P a a
-from_none P a none = record { below = omega arith; under = λ v p. absurd (none v p); found = inl refl }
 
 pub from_one : (x a : ℕ) → LeastFrom (λ v. v ≡ x) a (min a x)
 from_one x a =
@@ -46,34 +43,9 @@ below_less C n v h = (h.0, omega (arith, h.1), h.2)
 below_last : (C : ℕ → ℕ → Type 0) (n v : ℕ) → C n v → Below C (suc n) v
 below_last C n v h = (n, omega arith, h)
 
--- a loop from the first on: its start, and one more
-pub below_none : (C : ℕ → ℕ → Type 0) (a : ℕ) → LeastFrom (Below C 0) a a
-below_none C a = from_none (Below C 0) a (λ v h. omega (arith, h.1))
-
-below_more : (C : ℕ → ℕ → Type 0) (a n l m : ℕ) → LeastFrom (Below C n) a l → LeastFrom (C n) l m → LeastFrom (Below C (n + 1)) a m
-below_more C a n l m before here =
-    rw add-one (from_then (Below C n) (C n) (Below C (suc n)) a l m before here (below_either C n) (below_less C n) (below_last C n))
-
-pub entry_more : (xs : List ℕ) (a n l m : ℕ) → LeastFrom (Below (At xs) n) a l → m ≡ min l (get_or xs n 0) → LeastFrom (Below (At xs) (n + 1)) a m
-entry_more xs a n l m before e = rw e (below_more (At xs) a n l (min l (get_or xs n 0)) before (from_one (get_or xs n 0) l))
-
--- the first place of the least, from the first on: its start, and one more, which is kept or taken
-pub first_none : (xs : List ℕ) → FirstBelow xs 1 0
-first_none xs = (omega arith, λ j h. let only : j ≡ 0 = omega arith in omega (arith, ap (λ k. get_or xs k 0) only), λ j h. absurd (omega arith))
-
-pub first_keeps : (xs : List ℕ) (n i : ℕ) → FirstBelow xs n i → get_or xs i 0 ≤ get_or xs n 0 → FirstBelow xs (n + 1) i
-first_keeps xs n i f h = (
-  omega (arith, f.0),
-  λ j l. elim (cases_lt j n) [ inl p ↦ f.1 j p | inr p ↦ let last : j ≡ n = omega arith in omega (arith, ap (λ k. get_or xs k 0) last) ],
-  f.2,
-)
-
-pub first_takes : (xs : List ℕ) (n i : ℕ) → FirstBelow xs n i → get_or xs n 0 < get_or xs i 0 → FirstBelow xs (n + 1) n
-first_takes xs n i f h = (
-  omega arith,
-  λ j l. elim (cases_lt j n) [ inl p ↦ omega (arith, f.1 j p) | inr p ↦ let last : j ≡ n = omega arith in omega (arith, ap (λ k. get_or xs k 0) last) ],
-  λ j l. omega (arith, f.1 j l),
-)
+-- a loop over no candidates
+below_none : (C : ℕ → ℕ → Type 0) (a : ℕ) → LeastFrom (Below C 0) a a
+below_none C a = record { below = omega arith; under = λ v h. omega (arith, h.1); found = inl refl }
 
 -- a fold from the last on, whose step is least in its turn: folds nest
 module _ (C : ℕ → ℕ → Type 0) (step fold : ℕ → ℕ → ℕ) (none : (a : ℕ) → fold 0 a ≡ a) (more : (n a : ℕ) → fold (suc n) a ≡ fold n (step n a)) (each : (n a : ℕ) → LeastFrom (C n) a (step n a)) where
@@ -90,7 +62,3 @@ from_same P Q a m n p q to back =
     let up : m ≤ n = elim q.found [ inl e ↦ omega (arith, p.below) | inr x ↦ p.under n (back n x) ] in
     let down : n ≤ m = elim p.found [ inl e ↦ omega (arith, q.below) | inr x ↦ q.under m (to m x) ] in
     omega arith
-
--- a loop that starts with a candidate finds the least of all
-pub from_member : (P : ℕ → Type 0) (a m : ℕ) → P a → LeastFrom P a m → Least P (Some m)
-from_member P a m p l = (elim l.found [ inl e ↦ subst P (sym e) p | inr x ↦ x ], l.under)

@@ -1,5 +1,6 @@
 pub mod Minimal
 pub mod Folds
+pub mod Picked
 pub mod Capped
 pub mod Lists
 pub mod Choice

@@ -2,11 +2,11 @@
 use Rattle.std.proofs.Common.{◌≡◌, ℕ, ◌+◌, ◌≤◌, min, Bool, true, false, cond, ◌⊎◌, List, [], ◌∷◌, ◌++◌, Some, None, Option, sym, refl, ap, ◌∙◌, inl, inr, arith}
 use Rattle.std.specs.Option.{option_or}
 use Rattle.std.proofs.lemmas.Bool.{both_ways, cases_Bool, cases_cond, cases_lt, cond-false, cond-true, eq-eqb, eqb-true}
+use Rattle.std.proofs.lemmas.List.Folds.{find-append}
+use Rattle.std.proofs.lemmas.Option.{none-some}
 use Rattle.least.specs.Minima.{Least, NoMore, lower, plus, both, hits, over, first, and_then, cheapest, Among, Sooner}
 
 -- ---- the order of costs
-pub none_some : {A : Type 0} (a : A) → None ≡ Some a → ⊥
-none_some a e = let z : ◌≡◌ {A = ℕ} 0 1 = cc in omega arith
 
 -- a cost that is there, and at most v
 abbrev pub Within : Option ℕ → ℕ → Type 0
@@ -17,11 +17,11 @@ within_more m u v w h = (w.0, w.1, omega (arith, w.2))
 
 pub no_more_from : (m n : Option ℕ) → ((v : ℕ) → n ≡ Some v → Within m v) → NoMore m n
 no_more_from m None h = tt
-no_more_from None (Some n) h = none_some (h n refl).0 (h n refl).1
+no_more_from None (Some n) h = none-some (h n refl).0 (h n refl).1
 no_more_from (Some m) (Some n) h = let r = h n refl in let e : m ≡ r.0 = cc r.1 in omega (arith, r.2)
 
 pub no_more_some : (m n : Option ℕ) (v : ℕ) → NoMore m n → n ≡ Some v → Within m v
-no_more_some m None v h e = absurd (none_some v e)
+no_more_some m None v h e = absurd (none-some v e)
 no_more_some None (Some n) v h e = absurd h
 no_more_some (Some m) (Some n) v h e = let f : n ≡ v = cc in (m, refl, omega arith)
 
@@ -32,7 +32,7 @@ no_more_both (Some m) None p q = absurd q
 no_more_both (Some m) (Some n) p q = ap Some (omega arith)
 
 pub plus_some : (x : ℕ) (n : Option ℕ) (v : ℕ) → plus x n ≡ Some v → (u : ℕ) × (n ≡ Some u) × (v ≡ x + u)
-plus_some x None v e = absurd (none_some v e)
+plus_some x None v e = absurd (none-some v e)
 plus_some x (Some n) v e = (n, refl, cc)
 
 pub no_more_plus : (x : ℕ) (m n : Option ℕ) → x ≡ 0 → NoMore m (plus x n) → NoMore m n
@@ -42,7 +42,7 @@ no_more_plus x (Some m) (Some n) e h = omega arith
 
 -- ---- what is the least
 pub least_found : (P : ℕ → Type 0) (m : Option ℕ) (v : ℕ) → Least P m → m ≡ Some v → P v
-least_found P None v l e = absurd (none_some v e)
+least_found P None v l e = absurd (none-some v e)
 least_found P (Some m) v l e = let f : m ≡ v = cc in rw f at l.0
 
 pub least_within : (P : ℕ → Type 0) (m : Option ℕ) (v : ℕ) → Least P m → P v → Within m v
@@ -50,7 +50,7 @@ least_within P None v l p = absurd (l v p)
 least_within P (Some m) v l p = (m, refl, l.1 v p)
 
 pub least_from : (P : ℕ → Type 0) (m : Option ℕ) → ((v : ℕ) → m ≡ Some v → P v) → ((v : ℕ) → P v → Within m v) → Least P m
-least_from P None found within = λ v p. none_some (within v p).0 (within v p).1
+least_from P None found within = λ v p. none-some (within v p).0 (within v p).1
 least_from P (Some m) found within = (found m refl, λ v p. let w = within v p in let e : m ≡ w.0 = cc w.1 in omega (arith, w.2))
 
 -- each number of Q has one of P that is no more: so have their least
@@ -78,7 +78,7 @@ both_least P Q (Some m) None p q = λ v h. q h.1 h.3
 both_least P Q (Some m) (Some n) p q = ((m, n, p.0, q.0, refl), λ v h. omega (arith, p.1 h.0 h.2, q.1 h.1 h.3, h.4))
 
 pub plus_least : (x : ℕ) (n : Option ℕ) → Least (λ v. (a : ℕ) × (n ≡ Some a) × (v ≡ x + a)) (plus x n)
-plus_least x None = λ v h. none_some h.0 h.1
+plus_least x None = λ v h. none-some h.0 h.1
 plus_least x (Some n) = ((n, refl, refl), λ v h. let e : n ≡ h.0 = cc h.1 in omega (arith, h.2))
 
 -- ---- the least of a list
@@ -106,7 +106,7 @@ over_under f x (y ∷ ys) (inl e) = rw e (lower_left (f y) (over f ys))
 over_under f x (y ∷ ys) (inr a) = lower_right (f y) (over f ys) (f x) (over_under f x ys a)
 
 pub over_found : {A : Type 0} (f : A → Option ℕ) (xs : List A) (v : ℕ) → over f xs ≡ Some v → (x : A) × Among x xs × (f x ≡ Some v)
-over_found f [] v e = absurd (none_some v e)
+over_found f [] v e = absurd (none-some v e)
 over_found f (y ∷ ys) v e =
     elim (lower_one (f y) (over f ys) v e) [
       | inl p ↦ (y, inl refl, p)
@@ -150,7 +150,7 @@ first_found {A = A} t (z ∷ zs) y a h =
     ]
 
 pub first_among : {A : Type 0} (t : A → Bool) (x : A) (xs : List A) → first t xs ≡ Some x → Among x xs
-first_among t x [] e = absurd (none_some x e)
+first_among t x [] e = absurd (none-some x e)
 first_among t x (y ∷ ys) e =
     elim (cases_cond (t y) (Some y) (first t ys) (Some x) (sym e)) [ inl f ↦ inl (cc) | inr f ↦ inr (first_among t x ys (sym f)) ]
 
@@ -158,13 +158,9 @@ pub first_same : {A : Type 0} (t u : A → Bool) → ((x : A) → t x ≡ u x) �
 first_same t u e [] = refl
 first_same t u e (x ∷ xs) = (λ i. cond (e x i) (Some x) (first_same t u e xs i))
 
-other_cond : {A : Type 0} (b : Bool) (x : A) (o p q : Option A) → p ≡ option_or o q → cond b (Some x) p ≡ option_or (cond b (Some x) o) q
-other_cond true x o p q e = refl
-other_cond false x o p q e = e
-
+-- `first` is word for word the library's `find`
 pub first_append : {A : Type 0} (t : A → Bool) (xs ys : List A) → first t (xs ++ ys) ≡ option_or (first t xs) (first t ys)
-first_append t [] ys = refl
-first_append t (x ∷ xs) ys = other_cond (t x) x (first t xs) (first t (xs ++ ys)) (first t ys) (first_append t xs ys)
+first_append = find-append
 
 -- ---- the first of a list that costs the least
 hits_is : (m : ℕ) (n : Option ℕ) → hits m n ≡ true → n ≡ Some m

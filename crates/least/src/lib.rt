@@ -13,27 +13,17 @@ ghost use Rattle.least.specs.Laws.{ToldFrom, Told, Only, Tried, Fewer, Imitates,
 pub fn least_of(row: &[u64]) -> Option<u64>
     ensures { Least (Entry row.now) result }
 {
-    let mut least = *row.first()?;
-    for x in row {
-        least = least.min(*x);
-    }
-    Some(least)
+    row.iter().copied().min()
 }
 
-// The first place of the least number of a row.
+// The first place of the least number of a row: of equal keys `min_by_key` keeps the first.
 pub fn first_least(row: &[u64]) -> Option<usize>
     ensures { FirstLeast row.now result }
 {
-    if row.is_empty() {
-        return None;
-    }
-    let mut best = 0;
-    for i in 1..row.len() {
-        if row[i] < row[best] {
-            best = i;
-        }
-    }
-    Some(best)
+    row.iter()
+        .enumerate()
+        .min_by_key(|(_, x)| **x)
+        .map(|(i, _)| i)
 }
 
 // What is told is the first best reading, and what it costs is the least: from any state on, and of all.

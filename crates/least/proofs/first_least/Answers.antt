@@ -1,9 +1,10 @@
-use Rattle.std.proofs.Common.{rules}
-use Rattle.least.proofs.Folds.{first_none, first_keeps, first_takes}
+use Rattle.std.proofs.Common.{rules, tests}
+use Rattle.std.proofs.lemmas.Iterator.{YieldsList-from_slice}
+use Rattle.std.proofs.lemmas.Iterator.Consumers.{YieldsList-from_enumerate}
+use Rattle.least.proofs.Picked.{first_picked}
 use Rattle.least.proofs.first_least.Goals as goal
 
-pub loop-i-init : goal.loop-i-init
-loop-i-init c = search (rules, first_none)
-
-pub loop-i-preserved : goal.loop-i-preserved
-loop-i-preserved c = search (rules, first_keeps, first_takes)
+pub returns : goal.returns
+returns c =
+    first_picked c.args.row.now _ c.min_by_key.result _ (YieldsList-from_enumerate (YieldsList-from_slice c.args.row.now cc) cc) c.min_by_key.ensures.ran
+    (λ x k q h. search (rules, tests)) (search rules)
