@@ -3,7 +3,7 @@ use Rattle.std.specs.Prelude.{◌≡◌, ℕ, ◌≤◌, ◌⊎◌, List, length
 use Rattle.taps.specs.Readings.{Book}
 use Rattle.taps.specs.Calls as calls
 use Rattle.taps.specs.Calls.{answer}
-use Rattle.taps.specs.Values.{number_of, place_of, call_of, answer_of}
+use Rattle.taps.specs.Values.{place_of, call_of, answer_of}
 use Rattle.taps.specs.declared.answer.Answer.{Answer}
 use Rattle.taps.specs.declared.call.Call.{Call}
 use Rattle.taps.specs.declared.refusal.Refusal.{Refusal}
@@ -14,11 +14,6 @@ use Rattle.wire.specs.Wire.{answer_bytes}
 abbrev pub heard : Result Call Refusal → calls.Call
 heard (Ok c) = call_of c
 heard (Err e) = calls.garbled (place_of e)
-
--- the answer to a call that was taken, or refused
-abbrev pub Told : Result ℕ Refusal → Answer → Type 0
-Told (Ok k) a = answer_of a ≡ calls.number k
-Told (Err e) a = answer_of a ≡ calls.refused (number_of e) (place_of e)
 
 -- a call that asks for the best reading or its cost
 abbrev pub AsksBest : calls.Call → Type 0

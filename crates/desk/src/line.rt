@@ -1,7 +1,9 @@
-// Calls as lines of text.
+// Calls and answers as lines of text.
 ghost use Rattle.std.specs.Prelude.{◌≡◌};
 ghost use Rattle.desk.specs.Lines.{time_in};
 
+use std::fmt;
+use taps::answer::Answer;
 use taps::call::Call;
 
 // The call that a line is: `tap TIME`, `back`, `cost` or `read`, with blanks around its words.
@@ -35,4 +37,21 @@ fn parse_time(digits: &[u8]) -> Option<u32>
             .saturating_add(u32::from(*digit - b'0'));
     }
     Some(time)
+}
+
+// The line that says an answer.
+#[derive(Clone, Copy)]
+pub struct Line(pub Answer);
+
+impl fmt::Display for Line {
+    fn fmt<W: fmt::Write>(&self, f: &mut fmt::Formatter<W>) -> fmt::Result {
+        match self.0 {
+            Answer::Refused(refusal) => {
+                write!(f, "refused {} at {}", refusal.number(), refusal.place())
+            }
+            Answer::Number(number) => write!(f, "{number}"),
+            // No reading of a gap is told yet.
+            Answer::Reads(_) => write!(f, "none"),
+        }
+    }
 }

@@ -1,15 +1,20 @@
 // The program `desk`: answers calls, a line each, by a line each.
 //
-// `held.rt` holds the taps and answers calls in bytes, and its contracts promise that it does so by the definitions of
-// calls; `line.rt` takes lines apart. What is here reads and prints, and is run and compared.
+// The crate `answers` answers calls in bytes over words that are lent, and its contracts promise that it does so by the
+// definitions of calls; `line.rt` takes lines apart and writes answers as lines. What is here lends the words, reads and
+// prints, and is run and compared.
 #![tactic(auto)]
 
-mod held;
+ghost use Rattle.std.specs.Prelude.{◌≡◌, [], IfOk};
+ghost use Rattle.onsets.specs.Onsets.{limit_of, taps_in};
+
 mod line;
 
-use anyhow::anyhow;
-use held::Held;
-use line::parse_call;
+use answers::answer_bytes;
+use anyhow::{anyhow, bail};
+use line::{Line, parse_call};
+use onsets::{MOST_WORDS, clear};
+use std::alloc::{AllocError, Global};
 use std::fs::File;
 use std::io::{BufRead, BufReader};
 use std::process::ExitCode;
@@ -59,7 +64,7 @@ fn run(rt: &HostRuntime) -> anyhow::Result<()> {
         return answer_lines(rt, BufReader::new(rt.alloc(), rt.stdin())?);
     };
     if args.next().is_some() {
-        return Err(anyhow!("more than one file of calls (desk --help tells more)"));
+        bail!("more than one file of calls (desk --help tells more)");
     }
     match first.as_str() {
         "--help" | "-h" => Ok(println!(rt; "{HELP}")?),
@@ -69,55 +74,46 @@ fn run(rt: &HostRuntime) -> anyhow::Result<()> {
 
 fn answer_file(rt: &HostRuntime, path: &str) -> anyhow::Result<()> {
     if path.starts_with('-') {
-        return Err(anyhow!(format!(in rt.alloc();
-            "unknown option {path} (desk --help tells more)"
-        )?));
+        bail!("unknown option {path} (desk --help tells more)");
     }
-    match File::open(rt, path) {
-        Ok(file) => answer_lines(rt, BufReader::new(rt.alloc(), file)?),
-        Err(error) => Err(anyhow!(format!(in rt.alloc(); "{path}: {error}")?)),
-    }
+    let file = File::open(rt, path).map_err(|error| anyhow!("{path}: {error}"))?;
+    answer_lines(rt, BufReader::new(rt.alloc(), file)?)
 }
 
 // Each answer is out before the next line is waited for.
 fn answer_lines<R: BufRead + Drop>(rt: &HostRuntime, input: R) -> anyhow::Result<()> {
-    let mut held = Held::new(rt.alloc())?;
-    let mut number: u64 = 0;
-    for line in input.split(rt.alloc(), b'\n') {
-        answer_line(rt, &mut held, line?.as_slice(), number)?;
-        number = number.saturating_add(1);
+    let mut words = no_taps(rt.alloc())?;
+    for (number, line) in input.split(rt.alloc(), b'\n').enumerate() {
+        answer_line(rt, &mut words, line?.as_slice(), number)?;
     }
     Ok(())
 }
 
-fn answer_line(rt: &HostRuntime, held: &mut Held, line: &[u8], number: u64) -> io::Result<()> {
+// Words with no taps and room for as many as a desk may hold, so that no call wants memory.
+fn no_taps(heap: Global) -> Result<Vec<u64>, AllocError>
+    ensures limit { IfOk result (λ words. limit_of words.items ≡ 256) }
+    ensures taps { IfOk result (λ words. taps_in words.items ≡ []) }
+{
+    let mut words = vec![in heap; 0; MOST_WORDS]?;
+    clear(&mut words);
+    Ok(words)
+}
+
+fn answer_line(rt: &HostRuntime, words: &mut [u64], line: &[u8], number: usize) -> io::Result<()> {
     let Some(call) = parse_call(line) else {
         return println!(rt; "refused 1 at {number}");
     };
-    match ask(held, call) {
-        Some(answer) => print_answer(rt, answer),
+    match ask(words, call) {
+        Some(answer) => println!(rt; "{}", Line(answer)),
         None => println!(rt; "not answered yet"),
     }
 }
 
 // Sends a call as bytes, and reads the bytes that it is answered by.
-fn ask(held: &mut Held, call: Call) -> Option<Answer> {
+fn ask(words: &mut [u64], call: Call) -> Option<Answer> {
     let mut request = [0; CALL_SIZE];
     let mut answer = [0; ANSWER_SIZE];
     let sent = encode_call(call, &mut request)?;
-    let told = held.call(&request[0..sent], &mut answer)?;
-    decode_answer(&answer[0..told])
-}
-
-fn print_answer(rt: &HostRuntime, answer: Answer) -> io::Result<()> {
-    match answer {
-        Answer::Refused(refusal) => {
-            let number = refusal.number();
-            let place = refusal.place();
-            println!(rt; "refused {number} at {place}")
-        }
-        Answer::Number(number) => println!(rt; "{number}"),
-        // No reading of a gap is told yet.
-        Answer::Reads(_) => println!(rt; "none"),
-    }
+    let told = answer_bytes(words, &request[..sent], &mut answer)?;
+    decode_answer(&answer[..told])
 }

@@ -28,6 +28,7 @@ pub fn clear(words: &mut [u64])
 }
 
 // Adds a tap, and answers its number, from 0.
+#[tactic(auto, unfolding(taps::specs::Calls::turned))]
 pub fn append(words: &mut [u64], time: u32) -> Result<usize, Refusal>
     ensures after { words.new ≡ words_after words.old (taps time) }
     ensures taps { taps_in words.new ≡ after (limit_of words.old) (taps_in words.old) (taps time) }
@@ -48,6 +49,7 @@ pub fn append(words: &mut [u64], time: u32) -> Result<usize, Refusal>
 }
 
 // Takes the last tap back, and answers how many are left.
+#[tactic(auto, unfolding(taps::specs::Calls::turned))]
 pub fn take_back(words: &mut [u64]) -> Result<usize, Refusal>
     ensures after { words.new ≡ words_after words.old back }
     ensures taps { taps_in words.new ≡ after (limit_of words.old) (taps_in words.old) back }
@@ -71,31 +73,25 @@ pub fn limit(words: &[u64]) -> usize
 pub fn count(words: &[u64]) -> usize
     ensures { result ≡ length (taps_in words.now) }
 {
-    let Some(first) = words.first() else {
-        return 0;
-    };
-    limit(words).min(*first as usize)
+    words
+        .first()
+        .map_or(0, |first| limit(words).min(*first as usize))
 }
 
 // When the last tap came.
+#[tactic(auto, using(crate::proofs::Words::last_word))]
 pub fn last(words: &[u64]) -> Option<u64>
     ensures { result ≡ last_in (taps_in words.now) }
 {
     let count = count(words);
-    if count == 0 {
-        return None;
-    }
-    Some(words[count])
+    (count != 0).then(|| words[count])
 }
 
 // The gap after the tap numbered `i`, if another tap follows it.
 pub fn gap(words: &[u64], i: usize) -> Option<u64>
     ensures { result ≡ slice_get (gaps (taps_in words.now)) i }
 {
-    if i >= gap_count(words) {
-        return None;
-    }
-    Some(gap_at(words, i))
+    (i < gap_count(words)).then(|| gap_at(words, i))
 }
 
 // Writes all gaps at the front of `out` and says how many they are, or nothing where they don't fit.
@@ -104,11 +100,9 @@ pub fn write_gaps(words: &[u64], out: &mut [u64]) -> Option<usize>
     ensures after { out.new ≡ written (gaps (taps_in words.now)) out.old }
 {
     let size = gap_count(words);
-    if out.len() < size {
-        return None;
-    }
-    for i in 0..size {
-        out[i] = gap_at(words, i);
+    let (front, _) = out.split_at_mut_checked(size)?;
+    for (i, place) in front.iter_mut().enumerate() {
+        *place = gap_at(words, i);
     }
     Some(size)
 }
@@ -125,21 +119,14 @@ pub fn held_stands()
 fn in_time(time: u32) -> Option<u64>
     ensures { MatchOption result (16777216 ≤ time) (λ t. (t ≡ time) × (t < 16777216)) }
 {
-    if time < TIME_END {
-        Some(u64::from(time))
-    } else {
-        None
-    }
+    (time < TIME_END).then_some(u64::from(time))
 }
 
 // The time, unless the last tap came as late.
 fn after_last(words: &[u64], time: u64) -> Option<u64>
     ensures { MatchOption result (is_later (taps_in words.now) time ≡ false) (λ t. (t ≡ time) × (is_later (taps_in words.now) time ≡ true)) }
 {
-    match last(words) {
-        Some(last) if time <= last => None,
-        _ => Some(time),
-    }
+    last(words).is_none_or(|last| last < time).then_some(time)
 }
 
 // The number of the next tap, unless there is no room for it.
@@ -147,13 +134,10 @@ fn next_number(words: &[u64]) -> Option<usize>
     ensures { MatchOption result (limit_of words.now ≤ length (taps_in words.now)) (λ n. (n ≡ length (taps_in words.now)) × (n < limit_of words.now)) }
 {
     let count = count(words);
-    if count < limit(words) {
-        Some(count)
-    } else {
-        None
-    }
+    (count < limit(words)).then_some(count)
 }
 
+#[tactic(auto, using(taps::proofs::Between::length_gaps))]
 fn gap_count(words: &[u64]) -> usize
     ensures gaps { result ≡ length (gaps (taps_in words.now)) }
     ensures taps { result ≡ length (taps_in words.now) - 1 }
@@ -162,6 +146,7 @@ fn gap_count(words: &[u64]) -> usize
 }
 
 // Between the taps numbered `i` and `i + 1`; 0 where the second is not later, as no desk leaves it.
+#[tactic(auto, using(crate::proofs::Words::gap_in))]
 fn gap_at(words: &[u64], i: usize) -> u64
     requires { i + 1 < length (taps_in words.now) }
     ensures { result ≡ slice_index (gaps (taps_in words.now)) i }

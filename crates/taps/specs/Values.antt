@@ -1,8 +1,8 @@
 -- What the values of the code stand for, by the definitions of readings and calls; and the list of refusals. Assumes nothing.
 --
 -- kind_of, read_of, reading_of, book_of, call_of, answer_of: what a value of the code's type of that name stands for.
--- number_of, place_of: what a refusal tells. listed: that some refusal tells this number and place.
-use Rattle.std.specs.Prelude.{ℕ, Bool, ◌&&◌, ◌||◌, List, map, take, ◌==◌, nat_le, nat_lt}
+-- number_of, place_of: what a refusal tells. Told: the answer to a call that was taken, with a number, or refused. listed: that some refusal tells this number and place.
+use Rattle.std.specs.Prelude.{◌≡◌, ℕ, Bool, ◌&&◌, ◌||◌, List, map, take, Ok, Err, Result, ◌==◌, nat_le, nat_lt}
 use Rattle.taps.specs.Readings as readings
 use Rattle.taps.specs.Calls as calls
 use Rattle.taps.specs.declared.kind.Kind.{Kind}
@@ -70,3 +70,8 @@ answer_of (answer.Reads rs) = calls.reads (reading_of rs)
 -- 1 at any place; 3 at 0, 1 and 2; 2, 4, 5 and 6 at 0
 abbrev pub listed : ℕ → ℕ → Bool
 listed n p = n == 1 || ((n == 3 && nat_lt p 3) || ((n == 2 || (nat_le 4 n && nat_le n 6)) && p == 0))
+
+-- the answer to a call that was taken, or refused
+abbrev pub Told : Result ℕ Refusal → Answer → Type 0
+Told (Ok k) a = answer_of a ≡ calls.number k
+Told (Err e) a = answer_of a ≡ calls.refused (number_of e) (place_of e)

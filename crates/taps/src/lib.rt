@@ -17,6 +17,7 @@ pub mod book;
 pub mod call;
 pub mod kind;
 pub mod kinds;
+pub mod listed;
 pub mod read;
 pub mod refusal;
 pub mod tempi;

@@ -1,8 +1,7 @@
-use Rattle.std.proofs.Common.{take}
+use Rattle.std.proofs.Common.{◌≡◌, take}
 use Rattle.taps.specs.Calls.{gaps}
-use Rattle.octets.proofs.Front.{Front}
 use Rattle.onsets.specs.Onsets.{taps_in}
 use Rattle.onsets.proofs.write_gaps.Given as goal
 
 abbrev pub invariant-loop-i : goal.invariant-loop-i
-invariant-loop-i l = Front l.initial.out l.out (take l.i (gaps (taps_in l.words)))
+invariant-loop-i l = take l.i l.front ≡ take l.i (gaps (taps_in l.words))
