@@ -14,7 +14,8 @@ ghost use Rattle.answers.specs.Answered.{Answered, AnsweredBy, heard};
 use onsets::{append, count, take_back};
 use taps::answer::Answer;
 use taps::call::Call;
-use taps::read::{MOST_GAPS, Read, Reading};
+use taps::listed::Listed;
+use taps::read::{MOST_GAPS, Read};
 use wire::answer::encode_answer;
 use wire::call::decode_call;
 
@@ -47,7 +48,7 @@ pub fn answer_call(words: &mut [u64], call: Call) -> Option<Answer>
         Call::Cost => without_gaps(words, Answer::Number(0)),
         Call::Read => {
             let all = [Read { kind: 0, tempo: 0 }; MOST_GAPS];
-            without_gaps(words, Answer::Reads(Reading { all, count: 0 }))
+            without_gaps(words, Answer::Reads(Listed { all, count: 0 }))
         }
     }
 }

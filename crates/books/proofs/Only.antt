@@ -1,14 +1,12 @@
 -- What is read as something is just what that is written as.
-use Rattle.std.proofs.Common.{◌≡◌, ℕ, ◌+◌, ◌*◌, Bool, ◌&&◌, eqb, ltb, List, ◌∷◌, ◌++◌, length, get_or, take, drop, sym, ap, ◌∙◌, arith}
+use Rattle.std.proofs.Common.{◌≡◌, ℕ, ◌+◌, ◌*◌, List, ◌∷◌, ◌++◌, length, get_or, take, drop, sym, ap, ◌∙◌, arith}
 use Rattle.std.specs.List.{flat_map}
 use Rattle.std.proofs.lemmas.List.{drop-drop, length-drop, take-append-drop}
-use Rattle.std.proofs.lemmas.Bool.{and_parts, eqb-true}
-use Rattle.taps.specs.Readings.{Kind, Book}
+use Rattle.taps.specs.Readings.{Kind}
 use Rattle.octets.specs.Bytes.{Bytes, number, two, four, chunks}
 use Rattle.octets.proofs.Chunks.{length_chunks, bytes_drop, joined_chunks, headed}
-use Rattle.octets.proofs.Found.{found_is, found_test}
 use Rattle.octets.proofs.Numbers.{two_whole, four_whole}
-use Rattle.books.specs.Books.{kind_in, kind_bytes, kinds_good, tempi_good, book_bytes}
+use Rattle.books.specs.Books.{kind_in, kind_bytes}
 use Rattle.books.specs.Laws.{BooksOnly}
 
 kind_whole : (p : List ℕ) → length p ≡ 5 → Bytes p → kind_bytes (kind_in p) ≡ p
@@ -23,10 +21,7 @@ books_only bs b all e =
     let ks : List Kind = chunks kind_in 5 n (drop 1 bs) in
     let ts : List ℕ = chunks number 2 m (drop (1 + (1 + 5 * n)) bs) in
     let c : ℕ = number (drop (1 + (1 + 5 * n) + 2 * m) bs) in
-    let whole : Bool = eqb (length bs) (1 + (1 + 5 * n) + 2 * m + 4) in
-    let good : Bool = (kinds_good n ks && tempi_good m ts) && ltb c 65536 in
-    let made : Book = record { kinds = ks; tempi = ts; change = c } in
-    let size : length bs ≡ 1 + (1 + 5 * n) + 2 * m + 4 = eqb-true (length bs) (1 + (1 + 5 * n) + 2 * m + 4) (and_parts whole good (found_test (whole && good) b made (sym e))).0 in
+    let size : length bs ≡ 1 + (1 + 5 * n) + 2 * m + 4 = grind (arith, e) in
     let kinds : flat_map kind_bytes ks ≡ take (5 * n) (drop 1 bs) = joined_chunks kind_in kind_bytes 5 kind_whole n (drop 1 bs) (omega (arith, length-drop 1 bs)) (bytes_drop 1 bs all) in
     let tempi : flat_map two ts ≡ take (2 * m) (drop (1 + (1 + 5 * n)) bs) =
     joined_chunks number two 2 two_whole m (drop (1 + (1 + 5 * n)) bs) (omega (arith, length-drop (1 + (1 + 5 * n)) bs)) (bytes_drop (1 + (1 + 5 * n)) bs all) in
@@ -38,4 +33,4 @@ books_only bs b all e =
     (λ k. length_chunks number 2 m (drop (1 + (1 + 5 * n)) bs) k ∷ back k) ∙ sym (headed bs (1 + 5 * n) (omega arith)) in
     let front : flat_map kind_bytes ks ++ (length ts ∷ (flat_map two ts ++ four c)) ≡ drop 1 bs =
     (λ k. kinds k ++ (middle ∙ sym (drop-drop (5 * n) 1 bs)) k) ∙ take-append-drop (5 * n) (drop 1 bs) in
-    sym (ap book_bytes (found_is (whole && good) b made (sym e)) ∙ (λ k. length_chunks kind_in 5 n (drop 1 bs) k ∷ front k) ∙ sym (headed bs 0 (omega arith)))
+    grind (arith, front, length_chunks kind_in 5 n (drop 1 bs), headed bs 0)

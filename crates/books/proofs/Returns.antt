@@ -1,36 +1,35 @@
 -- What was written reads back as the same, and so no two that differ are written alike.
-use Rattle.std.proofs.Common.{◌≡◌, ℕ, ◌+◌, ◌*◌, ◌<◌, ◌≤◌, Bool, true, ◌&&◌, ltb, leb, List, [], ◌∷◌, ◌++◌, map, length, get_or, drop, Some, sym, refl, ap, ◌∙◌, arith}
+use Rattle.std.proofs.Common.{◌≡◌, ℕ, ◌+◌, ◌*◌, ◌≤◌, true, List, [], ◌∷◌, ◌++◌, map, length, get_or, drop, sym, refl, ap, ◌∙◌, arith}
 use Rattle.std.specs.List.{flat_map}
 use Rattle.std.proofs.lemmas.List.{append_assoc, drop_at, drop-drop, get_or_at, length-append}
-use Rattle.std.proofs.lemmas.Bool.{and_from, and_parts, le-leb, lt-ltb, leb-true, ltb-true}
+use Rattle.std.proofs.lemmas.Bool.{ltb-true, and_parts}
 use Rattle.taps.specs.Readings.{Kind}
-use Rattle.taps.specs.Promise.{good_kinds}
-use Rattle.taps.proofs.Good.{good_after, good_is}
+use Rattle.taps.specs.Promise.{good_kinds, good_tempi}
 use Rattle.octets.specs.Bytes.{two, four, chunks, number}
 use Rattle.octets.proofs.Chunks.{chunks_joined, length_joined}
 use Rattle.octets.proofs.Numbers.{two_back, four_back}
 use Rattle.octets.proofs.Found.{same_from_bytes}
-use Rattle.books.specs.Books.{book_bytes, book_in, kind_bytes, kind_in, kinds_good, tempi_good}
+use Rattle.books.specs.Books.{book_bytes, book_in, kind_bytes, kind_in}
 use Rattle.books.specs.Laws.{BooksReturn, BooksApart}
-use Rattle.books.proofs.Books.{from_is, kinds_from, tempi_from, change_from, book_by_parts}
 use Rattle.books.proofs.Written.{length_book}
 
 -- what is joined from pieces and cut again, where each piece reads back
 kinds_back : (ks : List Kind) → good_kinds ks ≡ true → map (λ k. kind_in (kind_bytes k)) ks ≡ ks
 unfolding good_kinds
 kinds_back [] h = refl
-kinds_back (k ∷ ks) h =
-    let each : Bool = (leb 1 k.ticks && leb k.ticks 96) && ltb k.weight 16777216 in
-    let parts = and_parts each (good_kinds ks) h in
-    let light : k.weight < 16777216 = ltb-true k.weight 16777216 (and_parts (leb 1 k.ticks && leb k.ticks 96) (ltb k.weight 16777216) parts.0).1 in
-    (λ i. record { ticks = k.ticks; weight = four_back k.weight (omega arith) i } ∷ kinds_back ks parts.1 i)
+kinds_back (k ∷ ks) h = grind (arith, four_back k.weight, kinds_back ks)
 
-tempi_back : (before : ℕ) (ts : List ℕ) → good_after before ts ≡ true → (before ≤ 4000) × (map (λ t. number (two t)) ts ≡ ts)
-tempi_back before [] h = (leb-true _ _ h, refl)
-tempi_back before (t ∷ ts) h =
-    let parts = and_parts (ltb before t) (good_after t ts) h in
-    let rest = tempi_back t ts parts.1 in
-    (omega (arith, rest.0, ltb-true before t parts.0), (λ i. two_back t (omega (arith, rest.0)) i ∷ rest.1 i))
+-- each tempo is below the next, so all are as small as the last
+tempi_back : (ts : List ℕ) → good_tempi ts ≡ true → (get_or ts 0 0 ≤ 4000) × (map (λ t. number (two t)) ts ≡ ts)
+unfolding good_tempi
+tempi_back [] h = (omega arith, refl)
+tempi_back (t ∷ []) h = grind (arith, two_back t)
+tempi_back (t ∷ (u ∷ us)) h =
+    let parts = and_parts _ _ h in
+    let rises = ltb-true t u (and_parts _ _ parts.0).1 in
+    let rest = tempi_back (u ∷ us) parts.1 in
+    let small : t ≤ 4000 = omega (arith, rises, rest.0) in
+    (small, ap (λ x. x ∷ map (λ t. number (two t)) (u ∷ us)) (two_back t (omega (arith, small))) ∙ ap (λ xs. t ∷ xs) rest.1)
 
 pub books_return : BooksReturn
 books_return b good =
@@ -47,17 +46,13 @@ books_return b good =
     ∙ drop_at (n ∷ (ks ++ m ∷ [])) (ts ++ four b.change) (1 + (1 + 5 * n)) (omega (arith, length-append ks (m ∷ []))) in
     let past-tempi : drop (1 + (1 + 5 * n) + 2 * m) bs ≡ four b.change =
     sym (drop-drop (2 * m) (1 + (1 + 5 * n)) bs) ∙ ap (drop (2 * m)) past-kinds ∙ drop_at ts (four b.change) (2 * m) few in
-    let kinds : kinds_from bs n ≡ b.kinds =
-    ap (chunks kind_in 5 n) (sym (from_is 1 bs)) ∙ chunks_joined kind_in kind_bytes 5 (λ _. refl) b.kinds _ ∙ kinds_back b.kinds good.2 in
-    let tempi : tempi_from bs n m ≡ b.tempi =
-    ap (chunks number 2 m) (sym (from_is (1 + (1 + 5 * n)) bs) ∙ past-kinds) ∙ chunks_joined number two 2 (λ _. refl) b.tempi _
-    ∙ (tempi_back 99 b.tempi (good_is b.tempi ∙ good.5)).1 in
-    let change : change_from bs n m ≡ b.change = ap number (sym (from_is (1 + (1 + 5 * n) + 2 * m) bs) ∙ past-tempi) ∙ four_back b.change (omega (arith, good.6)) in
-    sym (book_by_parts bs n m true true true refl count (length_book b n m refl refl)
-    (ap (kinds_good n) kinds ∙ and_from _ _ (and_from _ _ (lt-ltb 0 n good.0) (le-leb n 32 good.1)) good.2)
-    (ap (tempi_good m) tempi ∙ and_from _ _ (and_from _ _ (lt-ltb 0 m good.3) (le-leb m 64 good.4)) good.5)
-    (ap (λ c. ltb c 65536) change ∙ lt-ltb b.change 65536 good.6))
-    ∙ (λ k. Some (record { kinds = kinds k; tempi = tempi k; change = change k }))
+    let kinds : chunks kind_in 5 n (drop 1 bs) ≡ b.kinds =
+    chunks_joined kind_in kind_bytes 5 (λ _. refl) b.kinds _ ∙ kinds_back b.kinds good.2 in
+    let tempi : chunks number 2 m (drop (1 + (1 + 5 * n)) bs) ≡ b.tempi =
+    ap (chunks number 2 m) past-kinds ∙ chunks_joined number two 2 (λ _. refl) b.tempi _
+    ∙ (tempi_back b.tempi good.5).1 in
+    let change : number (drop (1 + (1 + 5 * n) + 2 * m) bs) ≡ b.change = ap number past-tempi ∙ four_back b.change (omega (arith, good.6)) in
+    grind (arith, length_book b)
 
 pub books_apart : BooksApart
 books_apart b c h k = same_from_bytes book_in book_bytes b c (books_return b h) (books_return c k)

@@ -1,6 +1,6 @@
 // Calls and answers as lines of text.
-ghost use Rattle.std.specs.Prelude.{◌≡◌};
-ghost use Rattle.desk.specs.Lines.{time_in};
+ghost use Rattle.std.specs.Prelude.{◌≡◌, Some};
+ghost use Rattle.desk.specs.Lines.{answer_text, time_in};
 
 use std::fmt;
 use taps::answer::Answer;
@@ -44,11 +44,11 @@ fn parse_time(digits: &[u8]) -> Option<u32>
 pub struct Line(pub Answer);
 
 impl fmt::Display for Line {
+    ghost output = { λ line. Some (answer_text line.0) };
+
     fn fmt<W: fmt::Write>(&self, f: &mut fmt::Formatter<W>) -> fmt::Result {
         match self.0 {
-            Answer::Refused(refusal) => {
-                write!(f, "refused {} at {}", refusal.number(), refusal.place())
-            }
+            Answer::Refused(refusal) => write!(f, "{refusal}"),
             Answer::Number(number) => write!(f, "{number}"),
             // No reading of a gap is told yet.
             Answer::Reads(_) => write!(f, "none"),

@@ -117,3 +117,6 @@ fn ask(words: &mut [u64], call: Call) -> Option<Answer> {
     let told = answer_bytes(words, &request[..sent], &mut answer)?;
     decode_answer(&answer[..told])
 }
+
+#[cfg(test)]
+mod tests;

@@ -1,13 +1,13 @@
 -- Taps stay sound, and words follow the definitions of calls, whatever is called. Assumes nothing.
-use Rattle.std.proofs.Common.{◌≡◌, ℕ, ◌<◌, ◌≤◌, true, List, [], ◌∷◌, ◌++◌, length, refl, arith}
+use Rattle.std.proofs.Common.{◌≡◌, ℕ, ◌<◌, ◌≤◌, true, List, [], ◌∷◌, ◌++◌, length, refl, ◌∙◌, arith}
 use Rattle.std.proofs.lemmas.List.{length_push, length-set}
 use Rattle.std.proofs.lemmas.Bool.Decides.{nat_tests}
 use Rattle.std.proofs.lemmas.Grind.{common_steps}
 use Rattle.taps.specs.Calls.{Call, taps, back, cost, read, garbled, last_of, gaps, but_last, turned, changed, after, ran}
 use Rattle.taps.specs.Promise.{small}
-use Rattle.taps.proofs.Turned.{but_last_is}
+use Rattle.taps.proofs.Ends.{but_last_is}
 use Rattle.onsets.specs.Onsets.{limit_of, stored, words_after}
-use Rattle.onsets.specs.Laws.{words_ran, rises, Sound, Follows, StaysSound, SmallGaps}
+use Rattle.onsets.specs.Laws.{words_ran, rises, Sound, Follows, KeepsLimit, StaysSound, SmallGaps}
 use Rattle.onsets.proofs.Words.{taps_after}
 
 -- one tap more, later than the last
@@ -80,6 +80,11 @@ stored_limit ws (garbled n) = refl
 
 after_limit : (ws : List ℕ) (c : Call) → limit_of (words_after ws c) ≡ limit_of ws
 after_limit ws c = grind (arith, stored_limit)
+
+pub keeps_limit : KeepsLimit
+unfolding KeepsLimit words_ran
+keeps_limit ws [] = refl
+keeps_limit ws (c ∷ cs) = keeps_limit (words_after ws c) cs ∙ after_limit ws c
 
 pub follows : Follows
 unfolding Follows words_ran ran

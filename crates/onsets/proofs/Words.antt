@@ -4,7 +4,7 @@ use Rattle.std.proofs.lemmas.Bool.Decides.{nat_tests}
 use Rattle.std.proofs.lemmas.Grind.{common_steps}
 use Rattle.taps.specs.Calls.{Call, taps, back, cost, read, garbled, last_of, gaps, turned, changed, after}
 use Rattle.taps.proofs.Between.{gap_at}
-use Rattle.taps.proofs.Turned.{last_is, but_last_is}
+use Rattle.taps.proofs.Ends.{last_is, but_last_is}
 use Rattle.onsets.specs.Onsets.{limit_of, taps_in, last_in, stored, words_after}
 
 -- how many taps there are

@@ -26,6 +26,10 @@ pub record Sound (most : ℕ) (ts : List ℕ) : Type 0 where
 unfoldable pub Follows : Type 0
 Follows = (ws : List ℕ) (cs : List Call) → taps_in (words_ran ws cs) ≡ ran (limit_of ws) (taps_in ws) cs
 
+-- no call makes more room for taps, or less
+unfoldable pub KeepsLimit : Type 0
+KeepsLimit = (ws : List ℕ) (cs : List Call) → limit_of (words_ran ws cs) ≡ limit_of ws
+
 -- no taps are sound, and sound taps stay so
 unfoldable pub StaysSound : Type 0
 StaysSound = (most : ℕ) → Sound most [] × ((ts : List ℕ) (cs : List Call) → Sound most ts → Sound most (ran most ts cs))

@@ -11,7 +11,7 @@ ghost use Rattle.std.specs.List.{slice_get};
 ghost use Rattle.taps.specs.Calls.{after, back, gaps, taps};
 ghost use Rattle.octets.specs.Bytes.{room, written};
 ghost use Rattle.onsets.specs.Onsets.{Taken, is_later, last_in, limit_of, taps_in, words_after};
-ghost use Rattle.onsets.specs.Laws.{Follows, StaysSound, SmallGaps};
+ghost use Rattle.onsets.specs.Laws.{Follows, KeepsLimit, SmallGaps, StaysSound};
 
 use taps::call::{MOST_TAPS, TIME_END};
 use taps::refusal::Refusal;
@@ -107,10 +107,11 @@ pub fn write_gaps(words: &[u64], out: &mut [u64]) -> Option<usize>
     Some(size)
 }
 
-// Whatever is called, the words stand for the taps that the definitions of calls have; these stay sound, and their gaps
-// small.
+// Whatever is called, the words stand for the taps that the definitions of calls have, and have room for as many; the
+// taps stay sound, and their gaps small.
 pub fn held_stands()
     ensures follows { Follows }
+    ensures limit { KeepsLimit }
     ensures sound { StaysSound }
     ensures gaps { SmallGaps }
 {}

@@ -1,27 +1,33 @@
--- Good tempi as a walk over them tests them; and that what a book of the code stands for is a good book.
-use Rattle.std.proofs.Common.{◌≡◌, ℕ, Bool, true, ◌&&◌, ltb, leb, List, [], ◌∷◌, map, length, take, refl, ◌∙◌, arith}
+-- Good tempi as `is_sorted_by` and `all` test them; and that what a book of the code stands for is a good book.
+use Rattle.std.proofs.Common.{◌≡◌, ℕ, zero, suc, ◌+◌, Bool, true, false, ◌&&◌, ltb, leb, List, [], ◌∷◌, map, length, take, get_or, refl, ap, ◌∙◌, arith}
 use Rattle.std.proofs.lemmas.List.{length-map, length-take-le}
 use Rattle.std.proofs.lemmas.Bool.{and_from, le-leb, lt-ltb}
 use Rattle.std.proofs.lemmas.Bool.Decides.{nat_tests}
+use Rattle.std.specs.List.{IsAllAdjacentAnswer, list_all}
 use Rattle.taps.specs.Promise.{good_kinds, good_tempi, GoodBook}
 use Rattle.taps.specs.Values.{kind_of, book_of}
 use Rattle.taps.specs.declared.kind.Kind.{Kind}
 use Rattle.taps.specs.declared.book.Book.{Book}
 
--- each tempo is larger than the one before, and the last is in bounds
-abbrev pub good_after : ℕ → List ℕ → Bool
-good_after before [] = leb before 4000
-good_after before (t ∷ ts) = ltb before t && good_after t ts
+-- a pair of neighbours in a list's tail is the next pair in the list
+next_pair : (t : ℕ) (ts : List ℕ) (k d : ℕ) → ltb (get_or (t ∷ ts) (suc k) d) (get_or (t ∷ ts) (suc k + 1) d) ≡ ltb (get_or ts k d) (get_or ts (k + 1) d)
+next_pair t ts k d = let next : suc k + 1 ≡ suc (k + 1) = omega arith in ap (λ n. ltb (get_or ts k d) (get_or (t ∷ ts) n d)) next
 
-pub good_from : (t : ℕ) (ts : List ℕ) → good_tempi (t ∷ ts) ≡ (leb 100 t && good_after t ts)
+-- good tempi are those that rise, as `is_sorted_by` tells it, and are all within bounds
+pub good_is_sorted : (ts : List ℕ) (r : Bool) → IsAllAdjacentAnswer (λ x y b. b ≡ ltb x y) ts r → good_tempi ts ≡ (r && list_all (λ t. leb 100 t && leb t 4000) ts)
 unfolding good_tempi
-good_from t [] = refl
-good_from t (u ∷ us) = let h = good_from u us in grind (arith, nat_tests)
-
-pub good_is : (ts : List ℕ) → good_after 99 ts ≡ good_tempi ts
-unfolding good_tempi
-good_is [] = refl
-good_is (t ∷ ts) = let h = good_from t ts in grind (arith, nat_tests)
+good_is_sorted [] true h = refl
+good_is_sorted [] false (k, below, by) = absurd (omega (arith, below))
+good_is_sorted (t ∷ []) true h = grind (arith, nat_tests)
+good_is_sorted (t ∷ []) false (k, below, by) = absurd (omega (arith, below))
+good_is_sorted (t ∷ (u ∷ us)) true h =
+    let first = h 0 0 (omega arith) in
+    let rest = good_is_sorted (u ∷ us) true (λ k d below. h (suc k) d (omega (arith, below)) ∙ next_pair t (u ∷ us) k d) in
+    grind (arith, nat_tests)
+good_is_sorted (t ∷ (u ∷ us)) false (zero, below, by) = let first = by 0 in grind (arith, nat_tests)
+good_is_sorted (t ∷ (u ∷ us)) false (suc k, below, by) =
+    let rest = good_is_sorted (u ∷ us) false (k, omega (arith, below), λ d. by d ∙ next_pair t (u ∷ us) k d) in
+    grind (arith, nat_tests)
 
 -- a kind's bounds are in its type, so any list of them is good
 pub good_each : (ks : List Kind) → good_kinds (map kind_of ks) ≡ true
@@ -32,14 +38,14 @@ good_each (k ∷ ks) =
 
 pub book_is_good : (b : Book) → GoodBook (book_of b)
 book_is_good b =
-    let kinds : length (map kind_of (take b.kinds.count b.kinds.all)) ≡ b.kinds.count =
-    length-map _ kind_of ∙ length-take-le _ b.kinds.all (omega (arith, b.kinds.whole, b.kinds.few)) in
-    let tempi : length (take b.tempi.count b.tempi.all) ≡ b.tempi.count = length-take-le _ b.tempi.all (omega (arith, b.tempi.whole, b.tempi.few)) in (
+    let kinds : length (map kind_of (take b.kinds.list.count b.kinds.list.all)) ≡ b.kinds.list.count =
+    length-map _ kind_of ∙ length-take-le _ b.kinds.list.all (omega (arith, b.kinds.list.whole, b.kinds.list.few)) in
+    let tempi : length (take b.tempi.list.count b.tempi.list.all) ≡ b.tempi.list.count = length-take-le _ b.tempi.list.all (omega (arith, b.tempi.list.whole, b.tempi.list.few)) in (
       omega (arith, kinds, b.kinds.some),
-      omega (arith, kinds, b.kinds.few),
+      omega (arith, kinds, b.kinds.list.few),
       good_each _,
       omega (arith, tempi, b.tempi.some),
-      omega (arith, tempi, b.tempi.few),
+      omega (arith, tempi, b.tempi.list.few),
       b.tempi.rising,
       b.cheap,
     )

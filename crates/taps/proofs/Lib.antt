@@ -1,5 +1,5 @@
 pub mod Good
-pub mod Turned
+pub mod Ends
 pub mod Between
 pub mod Picks
 pub mod Gap

@@ -2,5 +2,6 @@ pub mod Readings
 pub mod Plain
 pub mod Calls
 pub mod Promise
+pub mod Items
 pub mod Values
 pub mod Worked

@@ -1,13 +1,15 @@
 -- What the values of the code stand for, by the definitions of readings and calls; and the list of refusals. Assumes nothing.
 --
 -- kind_of, read_of, reading_of, book_of, call_of, answer_of: what a value of the code's type of that name stands for.
--- number_of, place_of: what a refusal tells. Told: the answer to a call that was taken, with a number, or refused. listed: that some refusal tells this number and place.
-use Rattle.std.specs.Prelude.{◌≡◌, ℕ, Bool, ◌&&◌, ◌||◌, List, map, take, Ok, Err, Result, ◌==◌, nat_le, nat_lt}
+-- number_of, place_of: what a refusal tells; refusal_text: the same as text. Tells: the refusal that tells a number and a place.
+-- Told: the answer to a call that was taken, with a number, or refused. listed: that some refusal tells this number and place.
+use Rattle.std.specs.Prelude.{◌≡◌, ℕ, Bool, true, false, ◌&&◌, ◌||◌, List, ◌++◌, map, codes, decimal, Ok, Err, Result, ◌==◌, nat_le, nat_lt}
+use Rattle.taps.specs.Items.{items}
 use Rattle.taps.specs.Readings as readings
 use Rattle.taps.specs.Calls as calls
 use Rattle.taps.specs.declared.kind.Kind.{Kind}
 use Rattle.taps.specs.declared.read.Read.{Read}
-use Rattle.taps.specs.declared.read.Reading.{Reading}
+use Rattle.taps.specs.declared.listed.Listed.{Listed}
 use Rattle.taps.specs.declared.kinds.Kinds.{Kinds}
 use Rattle.taps.specs.declared.tempi.Tempi.{Tempi}
 use Rattle.taps.specs.declared.book.Book.{Book}
@@ -16,6 +18,7 @@ use Rattle.taps.specs.declared.call.Call.TheVariants as call
 use Rattle.taps.specs.declared.answer.Answer.{Answer}
 use Rattle.taps.specs.declared.answer.Answer.TheVariants as answer
 use Rattle.taps.specs.declared.refusal.Refusal.{Refusal}
+use Rattle.taps.specs.declared.refusal.Unlisted.{Unlisted}
 use Rattle.taps.specs.declared.refusal.Refusal.TheVariants.{Garbled, TooLate, NoBook, LimitTooLarge, MemoryTooSmall, NotLater, NoTap, TooManyTaps}
 
 abbrev pub kind_of : Kind → readings.Kind
@@ -24,14 +27,14 @@ kind_of k = record { ticks = k.ticks; weight = k.weight }
 abbrev pub read_of : Read → readings.Read
 read_of r = record { kind = r.kind; tempo = r.tempo }
 
-abbrev pub reading_of : Reading → List readings.Read
-reading_of rs = map read_of (take rs.count rs.all)
+abbrev pub reading_of : Listed Read 255 → List readings.Read
+reading_of rs = map read_of (items rs)
 
 abbrev pub kinds_of : Kinds → List readings.Kind
-kinds_of ks = map kind_of (take ks.count ks.all)
+kinds_of ks = map kind_of (items ks.list)
 
 abbrev pub tempi_of : Tempi → List ℕ
-tempi_of ts = take ts.count ts.all
+tempi_of ts = items ts.list
 
 abbrev pub book_of : Book → readings.Book
 book_of b = record { kinds = kinds_of b.kinds; tempi = tempi_of b.tempi; change = b.change }
@@ -75,3 +78,12 @@ listed n p = n == 1 || ((n == 3 && nat_lt p 3) || ((n == 2 || (nat_le 4 n && nat
 abbrev pub Told : Result ℕ Refusal → Answer → Type 0
 Told (Ok k) a = answer_of a ≡ calls.number k
 Told (Err e) a = answer_of a ≡ calls.refused (number_of e) (place_of e)
+
+-- a refusal as text, as in `refused 4 at 0`
+abbrev pub refusal_text : Refusal → List ℕ
+refusal_text r = codes "refused " ++ (decimal (number_of r) ++ (codes " at " ++ decimal (place_of r)))
+
+-- the refusal that tells a number and a place, or that none does
+abbrev pub Tells : ℕ × ℕ → Result Refusal Unlisted → Type 0
+Tells p (Ok q) = (listed p.0 p.1 ≡ true) × (number_of q ≡ p.0) × (place_of q ≡ p.1)
+Tells p (Err e) = listed p.0 p.1 ≡ false

@@ -5,7 +5,7 @@ pub const MOST_TAPS: usize = 256;
 // The first time, in ms, that is too late: after four hours and a half.
 pub const TIME_END: u32 = 1 << 24;
 
-#[derive(Clone, Copy, PartialEq, Debug)]
+#[derive(Clone, Copy, PartialEq, Eq, Debug)]
 pub enum Call {
     // A tap at a time in ms: which number, from 0, does it get?
     Tap(u32),

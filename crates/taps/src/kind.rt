@@ -6,7 +6,7 @@ pub const MOST_TICKS: u8 = 96;
 // The first weight that is too large.
 pub const WEIGHT_END: u32 = 1 << 24;
 
-#[derive(Clone, Copy, PartialEq, Debug)]
+#[derive(Clone, Copy, PartialEq, Eq, Debug)]
 pub struct Kind {
     pub ticks: u8,
     pub weight: u32,

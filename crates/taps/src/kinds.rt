@@ -1,35 +1,35 @@
 // The kinds of a book, in the order in which they are told.
-ghost use Rattle.std.specs.Prelude.{◌≡◌, ◌<◌, ◌≤◌, ◌&&◌, length, take, is_some, IfSome, nat_le, nat_lt};
+ghost use Rattle.std.specs.Prelude.{◌≡◌, ◌<◌, ◌&&◌, is_some, IfSome, nat_le, nat_lt};
 
 use crate::kind::Kind;
+use crate::listed::Listed;
 
 // How many kinds a book may have.
 pub const MOST_KINDS: usize = 32;
 
-// The first `count` of `all` are the kinds.
+// At least one.
 #[derive(Clone, Copy)]
 pub struct Kinds {
-    pub all: [Kind; MOST_KINDS],
-    pub count: usize,
-    ghost whole: { length all ≡ 32 },
-    ghost some: { 0 < count },
-    ghost few: { count ≤ 32 },
+    pub list: Listed<Kind, MOST_KINDS>,
+    ghost some: { 0 < list.count },
 }
 
 impl Kinds {
+    // The first `count` of `all`.
     pub fn new(all: [Kind; MOST_KINDS], count: usize) -> Option<Kinds>
         ensures test { is_some result ≡ (nat_lt 0 count && nat_le count 32) }
-        ensures value { IfSome result (λ k. (k.all ≡ all) × (k.count ≡ count)) }
+        ensures value { IfSome result (λ k. (k.list.all ≡ all) × (k.list.count ≡ count)) }
     {
-        if count < 1 || count > MOST_KINDS {
-            return None;
-        }
-        Some(Kinds { all, count })
+        Kinds::from_list(Listed::new(all, count)?)
     }
 
-    pub fn as_slice(&self) -> &[Kind]
-        ensures { result.now ≡ take self.now.count self.now.all }
+    pub fn from_list(list: Listed<Kind, MOST_KINDS>) -> Option<Kinds>
+        ensures test { is_some result ≡ nat_lt 0 list.count }
+        ensures value { IfSome result (λ k. k.list ≡ list) }
     {
-        &self.all[0..self.count]
+        if list.count < 1 {
+            return None;
+        }
+        Some(Kinds { list })
     }
 }

@@ -2,7 +2,7 @@
 //
 // A desk is opened, and answers, with no memory but what it is lent. So its lists are arrays with a count, and not
 // vectors, which would want memory; and like the values that hold them they are copied, which a vector is not.
-ghost use Rattle.std.specs.Prelude.{◌≡◌, ◌≤◌, ⊤, length, take, is_some, IfSome, nat_le};
+ghost use Rattle.std.specs.Prelude.{◌≡◌, ◌≤◌, ⊤, length, is_some, IfSome, nat_le};
 
 use std::alloc::AllocError;
 
@@ -15,6 +15,8 @@ pub struct Listed<T, const N: usize> {
 }
 
 impl<T, const N: usize> Listed<T, N> {
+    ghost use Rattle.taps.specs.Items.{items};
+
     pub fn new(all: [T; N], count: usize) -> Option<Listed<T, N>>
     where
         T: Copy,
@@ -28,7 +30,7 @@ impl<T, const N: usize> Listed<T, N> {
     }
 
     pub fn as_slice(&self) -> &[T]
-        ensures { result.now ≡ take self.now.count self.now.all }
+        ensures { result.now ≡ items self.now }
     {
         let all = self.all.as_slice();
         &all[..self.count]

@@ -1,8 +1,10 @@
 // Why a call is not taken. The numbers are the order in which the checks run: the first that applies is told.
-ghost use Rattle.std.specs.Prelude.{◌≡◌, is_some, IfSome};
-ghost use Rattle.taps.specs.Values.{listed, number_of, place_of};
+ghost use Rattle.std.specs.Prelude.{◌≡◌, Some};
+ghost use Rattle.taps.specs.Values.{Tells, number_of, place_of, refusal_text};
 
-#[derive(Clone, Copy, PartialEq, Debug)]
+use std::fmt;
+
+#[derive(Clone, Copy, PartialEq, Eq, Debug)]
 pub enum Refusal {
     // 1: a call that can't be read, at the first byte that doesn't fit.
     Garbled(u32),
@@ -46,22 +48,37 @@ impl Refusal {
             _ => 0,
         }
     }
+}
 
-    // The refusal with this number and place, where the list has one.
-    pub fn from_parts(number: u32, place: u32) -> Option<Refusal>
-        ensures test { is_some result ≡ listed number place }
-        ensures value { IfSome result (λ q. (number_of q ≡ number) × (place_of q ≡ place)) }
-    {
+// A number and a place that no refusal of the list tells.
+#[derive(Clone, Copy, PartialEq, Eq, Debug)]
+pub struct Unlisted;
+
+// By number and place.
+impl TryFrom<(u32, u32)> for Refusal {
+    type Error = Unlisted;
+
+    ghost try_from_gives = { Tells };
+
+    fn try_from((number, place): (u32, u32)) -> Result<Refusal, Unlisted> {
         match (number, place) {
-            (1, _) => Some(Refusal::Garbled(place)),
-            (2, 0) => Some(Refusal::TooLate),
-            (3, 0) => Some(Refusal::NoBook),
-            (3, 1) => Some(Refusal::LimitTooLarge),
-            (3, 2) => Some(Refusal::MemoryTooSmall),
-            (4, 0) => Some(Refusal::NotLater),
-            (5, 0) => Some(Refusal::NoTap),
-            (6, 0) => Some(Refusal::TooManyTaps),
-            _ => None,
+            (1, _) => Ok(Refusal::Garbled(place)),
+            (2, 0) => Ok(Refusal::TooLate),
+            (3, 0) => Ok(Refusal::NoBook),
+            (3, 1) => Ok(Refusal::LimitTooLarge),
+            (3, 2) => Ok(Refusal::MemoryTooSmall),
+            (4, 0) => Ok(Refusal::NotLater),
+            (5, 0) => Ok(Refusal::NoTap),
+            (6, 0) => Ok(Refusal::TooManyTaps),
+            _ => Err(Unlisted),
         }
+    }
+}
+
+impl fmt::Display for Refusal {
+    ghost output = { λ refusal. Some (refusal_text refusal) };
+
+    fn fmt<W: fmt::Write>(&self, f: &mut fmt::Formatter<W>) -> fmt::Result {
+        write!(f, "refused {} at {}", self.number(), self.place())
     }
 }

@@ -1,8 +1,10 @@
 // The bounds of what a book and a reading hold, and the list of refusals.
+use crate::answer::Answer;
 use crate::kind::Kind;
 use crate::kinds::{Kinds, MOST_KINDS};
+use crate::listed::Listed;
 use crate::read::Read;
-use crate::refusal::Refusal;
+use crate::refusal::{Refusal, Unlisted};
 use crate::tempi::{MOST_TEMPI, Tempi};
 use std::test::Fail;
 
@@ -51,14 +53,43 @@ fn places_within_bounds(rt: HostRuntime) {
 #[test]
 fn refusals_by_number_and_place(rt: HostRuntime) {
     assert_eq!(rt;
-        Refusal::from_parts(1, 4294967295),
-        Some(Refusal::Garbled(4294967295))
+        Refusal::try_from((1, 4294967295)),
+        Ok(Refusal::Garbled(4294967295))
     );
-    assert_eq!(rt; Refusal::from_parts(3, 2), Some(Refusal::MemoryTooSmall));
-    assert_eq!(rt; Refusal::from_parts(3, 3), None);
-    assert_eq!(rt; Refusal::from_parts(0, 0), None);
-    assert_eq!(rt; Refusal::from_parts(7, 0), None);
-    assert_eq!(rt; Refusal::from_parts(4, 1), None);
+    assert_eq!(rt; Refusal::try_from((3, 2)), Ok(Refusal::MemoryTooSmall));
+    assert_eq!(rt; Refusal::try_from((3, 3)), Err(Unlisted));
+    assert_eq!(rt; Refusal::try_from((0, 0)), Err(Unlisted));
+    assert_eq!(rt; Refusal::try_from((7, 0)), Err(Unlisted));
+    assert_eq!(rt; Refusal::try_from((4, 1)), Err(Unlisted));
     assert_eq!(rt; Refusal::TooManyTaps.number(), 6);
     assert_eq!(rt; Refusal::LimitTooLarge.place(), 1);
+}
+
+#[test]
+fn lists_and_their_copies(rt: HostRuntime) -> Result<(), Fail> {
+    let Some(list) = Listed::<u16, 3>::new([5, 7, 9], 2) else {
+        return Err(Fail::new("no list"));
+    };
+    let copy = list.clone()?;
+    assert!(rt; copy.as_slice() == [5, 7].as_slice());
+    assert!(rt; Listed::<u16, 3>::new([5, 7, 9], 4).is_none());
+    Ok(())
+}
+
+#[test]
+fn answers_to_what_was_taken(rt: HostRuntime) {
+    assert!(rt; matches!(Answer::from(Ok(255)), Answer::Number(255)));
+    assert!(rt;
+        matches!(
+            Answer::from(Err(Refusal::NoTap)),
+            Answer::Refused(Refusal::NoTap)
+        )
+    );
+}
+
+#[test]
+fn refusals_as_text(rt: HostRuntime) -> Result<(), Fail> {
+    let text = format!(in rt.alloc(); "{}", Refusal::Garbled(258))?;
+    assert!(rt; text.as_str() == "refused 1 at 258");
+    Ok(())
 }

@@ -1,14 +1,15 @@
 // Answers as bytes.
-ghost use Rattle.std.specs.Prelude.{◌≡◌, ◌*◌, ◌&&◌, map, length, Some, None, nat_le};
-ghost use Rattle.std.specs.List.{flat_map};
+ghost use Rattle.std.specs.Prelude.{◌≡◌};
 ghost use Rattle.std.specs.Option.{option_map};
 ghost use Rattle.taps.specs.Calls.{reads};
-ghost use Rattle.taps.specs.Readings.{pick};
+ghost use Rattle.taps.specs.Readings as readings;
 ghost use Rattle.taps.specs.Values.{answer_of, read_of, reading_of};
-ghost use Rattle.octets.specs.Bytes.{chunks, room, written};
-ghost use Rattle.wire.specs.Wire.{all_in_place, answer_bytes, answer_in, in_place, number_in, read_bytes, read_in, reads_in, refused_in};
+ghost use Rattle.octets.specs.Bytes.{room, written};
+ghost use Rattle.wire.specs.Wire.{answer_bytes, answer_in, in_place, number_in, read_bytes, read_in, reads_in, refused_in};
 
-use octets::{decode_eight, decode_four, decode_two, write};
+use octets::number::Number;
+use octets::pieces::{Format, decode_all, encode_all};
+use octets::write;
 use taps::answer::Answer;
 use taps::read::{MOST_GAPS, Read, Reading};
 use taps::refusal::Refusal;
@@ -65,12 +66,10 @@ fn encode_reads(reading: &Reading, out: &mut [u8]) -> Option<usize>
 {
     let reads = reading.as_slice();
     let size = HEAD_SIZE + READ_SIZE * reads.len();
-    if out.len() < size {
-        return None;
-    }
-    out[0] = READS;
-    out[1..HEAD_SIZE].copy_from_slice(&(reads.len() as u16).to_le_bytes());
-    put_reads(reads, &mut out[HEAD_SIZE..size]);
+    let (front, _) = out.split_at_mut_checked(size)?;
+    front[0] = READS;
+    front[1..HEAD_SIZE].copy_from_slice(&(reads.len() as u16).to_le_bytes());
+    encode_all::<ReadBytes, READ_SIZE>(reads, &mut front[HEAD_SIZE..]);
     Some(size)
 }
 
@@ -78,72 +77,56 @@ fn encode_reads(reading: &Reading, out: &mut [u8]) -> Option<usize>
 fn decode_refused(parts: &[u8]) -> Option<Answer>
     ensures { option_map answer_of result ≡ refused_in parts.now }
 {
-    if parts.len() != 8 {
-        return None;
-    }
-    match Refusal::from_parts(decode_four(&parts[0..4]), decode_four(&parts[4..])) {
-        Some(refusal) => Some(Answer::Refused(refusal)),
-        None => None,
-    }
+    let (number, rest) = parts.split_first_chunk::<4>()?;
+    let place = rest.as_array::<4>()?;
+    let refusal = Refusal::try_from((u32::decode(number), u32::decode(place))).ok()?;
+    Some(Answer::Refused(refusal))
 }
 
 fn decode_number(number: &[u8]) -> Option<Answer>
     ensures { option_map answer_of result ≡ number_in number.now }
 {
-    if number.len() != 8 {
-        return None;
-    }
-    Some(Answer::Number(decode_eight(number)))
+    let number = number.as_array::<8>()?;
+    Some(Answer::Number(u64::decode(number)))
 }
 
 // A reading behind the number of its gaps.
 fn decode_reads(counted: &[u8]) -> Option<Answer>
     ensures { option_map answer_of result ≡ reads_in counted.now }
 {
-    if counted.len() < 2 {
+    let (count, rest) = counted.split_first_chunk::<2>()?;
+    if rest.len() != READ_SIZE * usize::from(u16::decode(count)) {
         return None;
     }
-    let count = decode_two(&counted[0..2]) as usize;
-    if counted.len() != 2 + READ_SIZE * count {
-        return None;
-    }
-    match decode_pairs(count, &counted[2..]) {
-        Some(reading) => Some(Answer::Reads(reading)),
-        None => None,
-    }
+    let (pairs, _) = rest.as_chunks::<READ_SIZE>();
+    decode_all::<ReadBytes, READ_SIZE, MOST_GAPS>(pairs).map(Answer::Reads)
 }
 
-// The reading that so many pairs of bytes are.
-fn decode_pairs(count: usize, pairs: &[u8]) -> Option<Reading>
-    requires { length pairs.now ≡ 2 * count }
-    ensures { option_map reading_of result ≡ pick (nat_le count 255 && all_in_place (chunks read_in 2 count pairs.now)) (Some (chunks read_in 2 count pairs.now)) None }
-{
-    if count > MOST_GAPS {
-        return None;
-    }
-    let mut all = [Read { kind: 0, tempo: 0 }; MOST_GAPS];
-    for i in 0..count {
-        all[i] = decode_read(&pairs[READ_SIZE * i..READ_SIZE * i + READ_SIZE])?;
-    }
-    Reading::new(all, count)
-}
+// How a gap is read: its kind and its tempo, a byte each.
+struct ReadBytes;
 
-// How a gap is read, by a pair of bytes.
-fn decode_read(pair: &[u8]) -> Option<Read>
-    requires { length pair.now ≡ 2 }
-    ensures { option_map read_of result ≡ pick (in_place (read_in pair.now)) (Some (read_in pair.now)) None }
-{
-    Read::new(pair[0], pair[1])
-}
+impl Format<READ_SIZE> for ReadBytes {
+    type Item = Read;
 
-// Writes a kind and a tempo for each gap.
-fn put_reads(reads: &[Read], out: &mut [u8])
-    requires { length out.old ≡ 2 * length reads.now }
-    ensures { out.new ≡ flat_map read_bytes (map read_of reads.now) }
-{
-    let mut at = 0;
-    for read in reads {
-        out[at..at + READ_SIZE].copy_from_slice(&[read.kind, read.tempo]);
-        at += READ_SIZE;
+    ghost Value = { readings.Read };
+
+    ghost value_of = { read_of };
+
+    ghost bytes_of = { read_bytes };
+
+    ghost value_in = { read_in };
+
+    ghost good = { in_place };
+
+    fn blank() -> Read {
+        Read { kind: 0, tempo: 0 }
+    }
+
+    fn decode(pair: &[u8; READ_SIZE]) -> Option<Read> {
+        Read::new(pair[0], pair[1])
+    }
+
+    fn encode(read: &Read) -> [u8; READ_SIZE] {
+        [read.kind, read.tempo]
     }
 }

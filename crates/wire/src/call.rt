@@ -3,7 +3,8 @@ ghost use Rattle.std.specs.Prelude.{◌≡◌};
 ghost use Rattle.octets.specs.Bytes.{room, written};
 ghost use Rattle.wire.specs.Wire.{alone, call_bytes, call_in, tap_in};
 
-use octets::{decode_four, write};
+use octets::number::Number;
+use octets::write;
 use taps::call::Call;
 use taps::refusal::Refusal;
 
@@ -52,17 +53,17 @@ pub fn encode_call(call: Call, out: &mut [u8]) -> Option<usize>
 fn decode_tap(time: &[u8]) -> Result<Call, Refusal>
     ensures { result ≡ tap_in time.now }
 {
-    if time.len() != 4 {
+    let Some(time) = time.as_array::<4>() else {
         return Err(Refusal::Garbled(1 + time.len().min(4) as u32));
-    }
-    Ok(Call::Tap(decode_four(time)))
+    };
+    Ok(Call::Tap(u32::decode(time)))
 }
 
 // A call of one byte, if nothing follows it.
 fn decode_alone(call: Call, rest: &[u8]) -> Result<Call, Refusal>
     ensures { result ≡ alone call rest.now }
 {
-    if rest.len() != 0 {
+    if !rest.is_empty() {
         return Err(Refusal::Garbled(1));
     }
     Ok(call)

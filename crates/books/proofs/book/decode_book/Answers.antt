@@ -1,45 +1,23 @@
-use Rattle.std.proofs.Common.{true, false, ltb, Some, sym, refl, ap, ◌∙◌, arith}
-use Rattle.taps.specs.Values.{kinds_of, tempi_of}
-use Rattle.octets.proofs.Found.{found_is, found_test, not_found_is}
-use Rattle.books.proofs.Books.{book_by_parts}
+use Rattle.std.proofs.Common.{◌≡◌, ◌+◌, ◌*◌, drop, ◌∙◌, arith}
+use Rattle.std.proofs.lemmas.Grind.{common_steps}
+use Rattle.octets.specs.Bytes.{number}
+use Rattle.books.specs.Books.{kind_in}
+use Rattle.books.proofs.Books.{part_pieces}
 use Rattle.books.proofs.book.decode_book.Goals as goal
 
-pub returns-in_default : goal.returns-in_default
-returns-in_default c =
-    record {
-      value =
-          book_by_parts c.args.bytes.now _ _ false _ _ c.count_at-kind_count.ensures c.count_at-tempo_count.ensures (omega arith)
-          (not_found_is _ _ c.in_default.ensures) refl refl;
-      refused = refl;
-    }
+pub returns-in_default-clause-value : goal.returns-in_default-clause-value
+returns-in_default-clause-value c =
+    let kinds = part_pieces kind_in 5 c.count_at.result 1 c.args.bytes.now (omega arith) (omega arith) in
+    grind (arith, kinds)
 
-pub returns-in_default-decode_tempi : goal.returns-in_default-decode_tempi
-returns-in_default-decode_tempi c =
-    record {
-      value =
-          book_by_parts c.args.bytes.now _ _ true false _ c.count_at-kind_count.ensures c.count_at-tempo_count.ensures (omega arith)
-          (found_test _ _ _ c.in-Some.ensures) (not_found_is _ _ c.in_default-decode_tempi.ensures) refl;
-      refused = refl;
-    }
+pub returns-in_default-decode_tempi-clause-value : goal.returns-in_default-decode_tempi-clause-value
+returns-in_default-decode_tempi-clause-value c =
+    let tempi = part_pieces number 2 c.count_at-2.result (1 + (1 + 5 * c.count_at.result)) c.args.bytes.now (omega arith) (omega arith) in
+    grind (arith, tempi)
 
-pub returns-in_default-new : goal.returns-in_default-new
-returns-in_default-new c =
-    record {
-      value =
-          book_by_parts c.args.bytes.now _ _ true true false c.count_at-kind_count.ensures c.count_at-tempo_count.ensures (omega arith)
-          (found_test _ _ _ c.in-Some.ensures) (found_test _ _ _ c.in-Some-decode_tempi.ensures) (ap (λ n. ltb n 65536) (sym c.decode_four.ensures) ∙ sym c.in_default-new.ensures.test);
-      refused = refl;
-    }
-
-pub returns : goal.returns
-returns c =
-    let kinds = found_is _ _ _ c.in-Some.ensures in
-    let tempi = found_is _ _ _ c.in-Some-decode_tempi.ensures in
-    let parts = c.in-Some-new.ensures.value in
-    record {
-      value =
-          (λ k. Some (record { kinds = (ap kinds_of parts.0 ∙ kinds) k; tempi = (ap tempi_of parts.1 ∙ tempi) k; change = (parts.2 ∙ c.decode_four.ensures) k }))
-          ∙ book_by_parts c.args.bytes.now _ _ true true true c.count_at-kind_count.ensures c.count_at-tempo_count.ensures (omega arith)
-          (found_test _ _ _ c.in-Some.ensures) (found_test _ _ _ c.in-Some-decode_tempi.ensures) (ap (λ n. ltb n 65536) (sym c.decode_four.ensures) ∙ sym c.in-Some-new.ensures.test);
-      refused = tt;
-    }
+pub returns-clause-value : goal.returns-clause-value
+returns-clause-value c =
+    let kinds = part_pieces kind_in 5 c.count_at.result 1 c.args.bytes.now (omega arith) (omega arith) in
+    let tempi = part_pieces number 2 c.count_at-2.result (1 + (1 + 5 * c.count_at.result)) c.args.bytes.now (omega arith) (omega arith) in
+    let change : c.in-Some-first_chunk.change.now ≡ drop (1 + (1 + 5 * c.count_at.result) + 2 * c.count_at-2.result) c.args.bytes.now = c.in-Some-first_chunk.ensures.cases.same ∙ grind (arith, common_steps) in
+    grind (arith, kinds, tempi, change)

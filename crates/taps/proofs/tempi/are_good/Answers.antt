@@ -1,19 +1,16 @@
-use Rattle.std.proofs.Common.{arith}
-use Rattle.std.proofs.lemmas.List.{at_drop_more, at_drop_all}
-use Rattle.std.proofs.lemmas.Bool.Decides.{nat_tests}
-use Rattle.taps.proofs.Good.{good_after, good_is}
+use Rattle.std.proofs.Common.{rules, tests, ltb, leb, ◌&&◌}
+use Rattle.std.proofs.lemmas.Fn.{always_returns_same}
+use Rattle.std.proofs.lemmas.Iterator.{YieldsList-from_slice}
+use Rattle.std.proofs.lemmas.Iterator.Search.{all_from_yields_List}
+use Rattle.taps.proofs.Good.{good_is_sorted}
 use Rattle.taps.proofs.tempi.are_good.Goals as goal
 
-pub loop-tempo-init : goal.loop-tempo-init
-loop-tempo-init c = good_is c.args.tempi.now
+pub returns-then-is_sorted_by : goal.returns-then-is_sorted_by
+returns-then-is_sorted_by c =
+    let told = good_is_sorted c.args.tempi.now _ (c.is_sorted_by.ensures.cases ltb (always_returns_same _ _ _ (λ a r f q. search rules))) in
+    let all = all_from_yields_List (λ t. leb 100 t && leb t 4000) _ _ c.all.result c.all.ensures.ran (YieldsList-from_slice c.args.tempi.now cc) (λ x b q k. search (rules, tests)) in
+    search rules
 
-pub returns-then-tempo-before : goal.returns-then-tempo-before
-returns-then-tempo-before c =
-    let h = at_drop_more (good_after c.loop-tempo.before) c.args.tempi.now c.loop-tempo.tempo-index 0 (omega arith) in grind (arith, nat_tests)
-
-pub loop-tempo-preserved : goal.loop-tempo-preserved
-loop-tempo-preserved c =
-    let h = at_drop_more (good_after c.loop-tempo.before) c.args.tempi.now c.loop-tempo.tempo-index 0 (omega arith) in grind (arith, nat_tests)
-
-pub returns : goal.returns
-returns c = let h = at_drop_all (good_after c.loop-tempo.before) c.args.tempi.now c.loop-tempo.tempo-index (omega arith) in grind (arith, nat_tests)
+pub returns-else-is_sorted_by : goal.returns-else-is_sorted_by
+returns-else-is_sorted_by c =
+    let told = good_is_sorted c.args.tempi.now _ (c.is_sorted_by.ensures.cases ltb (always_returns_same _ _ _ (λ a r f q. search rules))) in search rules

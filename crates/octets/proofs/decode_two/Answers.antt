@@ -1,7 +1,0 @@
-use Rattle.std.proofs.Common.{ap, arith}
-use Rattle.octets.specs.Bytes.{number}
-use Rattle.octets.proofs.Numbers.{list_spelled}
-use Rattle.octets.proofs.decode_two.Goals as goal
-
-pub returns : goal.returns
-returns c = omega (arith, ap number (list_spelled 2 c.args.bytes.now c.requires))
