@@ -1,4 +1,4 @@
--- Pieces as `as_chunks` gives them, for callers of `decode_all` whose contracts speak of `chunks` and of a test of their own.
+-- Pieces as `as_chunks` gives them, for callers of `decode_all` whose formats are defined by `chunks` and by a test of their own.
 use Rattle.std.proofs.Common.{◌≡◌, ℕ, zero, suc, ◌*◌, leb, Bool, true, ◌&&◌, List, [], ◌∷◌, map, length, take, drop, Some, None, Option, sym, refl, ap, arith}
 use Rattle.std.proofs.lemmas.Grind.{common_steps}
 use Rattle.std.specs.List.{list_all}

@@ -1,14 +1,9 @@
 -- Values that are found where a test holds, and what they stand for.
-use Rattle.std.proofs.Common.{◌≡◌, ℕ, Bool, true, false, ◌⊎◌, List, is_some, IfSome, Some, None, Option, arith}
-use Rattle.std.proofs.lemmas.Grind.{common_steps}
+use Rattle.std.proofs.Common.{◌≡◌, ℕ, Bool, true, false, ◌⊎◌, List, Some, None, Option, arith}
 use Rattle.std.specs.Option.{option_map}
 use Rattle.taps.specs.Readings.{pick}
 
--- what is found stands for x, and it is found where t holds
-pub found : {A X : Type 0} (m : A → X) (r : Option A) (t : Bool) (x : X) → is_some r ≡ t → IfSome r (λ a. m a ≡ x) → option_map m r ≡ pick t (Some x) None
-found m r t x e h = grind (arith, common_steps)
-
--- and back
+-- what is found stands for what was asked, and it was found where the test holds
 pub found_is : {X : Type 0} (t : Bool) (x y : X) → Some x ≡ pick t (Some y) None → x ≡ y
 found_is t x y e = grind arith
 

@@ -10,7 +10,7 @@ use taps::listed::Listed;
 // How an item is written in N bytes, and which N bytes are one.
 //
 // An item's type and this trait are most often of two crates, and the format of a third, which implements the trait on a
-// type of its own: it has no values and only names the format.
+// type of its own, of which no value is ever made: it only names the format.
 pub trait Format<const N: usize> {
     type Item: Copy;
 
