@@ -7,6 +7,7 @@ fn taps_come_and_are_taken_back(rt: HostRuntime) {
     let mut words = [9; 4];
     clear(&mut words);
     assert_eq!(rt; words, [0, 0, 0, 0]);
+    assert_eq!(rt; last(&words), None);
     assert!(rt; append(&mut words, 0) == Ok(0));
     assert!(rt; append(&mut words, 16777215) == Ok(1));
     assert_eq!(rt; words, [2, 0, 16777215, 0]);
