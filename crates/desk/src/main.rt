@@ -1,12 +1,14 @@
 // The program `desk`: answers calls, a line each, by a line each.
 //
 // The crate `answers` answers calls in bytes over words that are lent, and its contracts promise that it does so by the
-// definitions of calls; `line.rt` takes lines apart and writes answers as lines. What is here lends the words, reads and
-// prints, and is run and compared.
+// definitions of calls; `line.rt` takes lines apart and writes answers as lines. What is here lends the words (`no_taps`)
+// and asks by bytes (`ask`), which is proved; and it reads and prints, which is run and compared.
 #![tactic(auto)]
 
 ghost use Rattle.std.specs.Prelude.{◌≡◌, [], IfOk};
-ghost use Rattle.onsets.specs.Onsets.{limit_of, taps_in};
+ghost use Rattle.taps.specs.Values.{call_of};
+ghost use Rattle.onsets.specs.Onsets.{limit_of, taps_in, words_after};
+ghost use Rattle.answers.specs.Answered.{Answered};
 
 mod line;
 
@@ -110,7 +112,10 @@ fn answer_line(rt: &HostRuntime, words: &mut [u64], line: &[u8], number: usize) 
 }
 
 // Sends a call as bytes, and reads the bytes that it is answered by.
-fn ask(words: &mut [u64], call: Call) -> Option<Answer> {
+fn ask(words: &mut [u64], call: Call) -> Option<Answer>
+    ensures after { words.new ≡ words_after words.old (call_of call) }
+    ensures value { Answered (limit_of words.old) (taps_in words.old) call result }
+{
     let mut request = [0; CALL_SIZE];
     let mut answer = [0; ANSWER_SIZE];
     let sent = encode_call(call, &mut request)?;

@@ -5,4 +5,4 @@ use Rattle.answers.proofs.answer_bytes.Goals as goal
 
 pub returns-clause-value : goal.returns-clause-value
 unfolding turned place
-returns-clause-value c = inr (λ b. grind (arith, refused_by_one c.args.request.now))
+returns-clause-value c = inr (grind arith, λ b. grind (arith, refused_by_one c.args.request.now))
