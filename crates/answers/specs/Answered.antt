@@ -23,7 +23,7 @@ unanswered ts calls.cost = nat_le 2 (length ts)
 unanswered ts calls.read = nat_le 2 (length ts)
 unanswered ts (calls.garbled p) = false
 
--- the answer of the definitions, whatever the book is; none just where there is none yet
+-- the answer of the definitions, whatever the book is; or none, where it is not answered yet and only there
 abbrev pub Answered : ℕ → List ℕ → Call → Option Answer → Type 0
 Answered most ts c (Some a) = (unanswered ts (call_of c) ≡ false) × ((b : Book) → answer_of a ≡ answer b most ts (call_of c))
 Answered most ts c None = unanswered ts (call_of c) ≡ true

@@ -111,7 +111,7 @@ fn answer_line(rt: &HostRuntime, words: &mut [u64], line: &[u8], number: usize) 
     }
 }
 
-// Sends a call as bytes, and reads the bytes that it is answered by.
+// Sends a call as bytes, and reads the bytes that it is answered by; none where it is not answered yet.
 fn ask(words: &mut [u64], call: Call) -> Option<Answer>
     ensures after { words.new ≡ words_after words.old (call_of call) }
     ensures value { Answered (limit_of words.old) (taps_in words.old) call result }

@@ -1,5 +1,6 @@
 -- Numbers, most often bytes, that are written from the front of a slice on, piece by piece.
 use Rattle.std.proofs.Common.{◌≡◌, ℕ, ◌<◌, ◌≤◌, List, [], ◌∷◌, ◌++◌, length, take, drop, set, Some, refl, arith}
+use Rattle.std.proofs.lemmas.Bool.Decides.{nat_tests}
 use Rattle.std.proofs.lemmas.Grind.{common_steps}
 use borrow.Rule.Slice.PartMut.{put_mid}
 use Rattle.std.proofs.lemmas.List.{drop_more, set_at, append_assoc, length-append}
@@ -28,3 +29,7 @@ all_written old out bs n front size fits = (grind (arith, common_steps), grind (
 -- what is written into a part at the front of a slice, of just its size, is written into the slice
 pub written_front : (old bs front rest : List ℕ) (n : ℕ) → length bs ≡ n → n ≤ length old → front ≡ take n old → rest ≡ drop n old → written bs front ++ rest ≡ written bs old
 written_front old bs front rest n size fits first last = grind (arith, common_steps)
+
+-- what was written is read again in as many places from the front
+pub read_back : (bs old out : List ℕ) (n : ℕ) → Some n ≡ room bs old → out ≡ written bs old → take n out ≡ bs
+read_back bs old out n size left = grind (arith, nat_tests, common_steps)
