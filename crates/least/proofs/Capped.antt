@@ -2,13 +2,17 @@
 use Rattle.std.proofs.Common.{◌≡◌, ℕ, ◌+◌, ◌<◌, ◌≤◌, min, eqb, ◌⊎◌, List, Some, None, Option, refl, ap, ◌∙◌, inl, inr, arith}
 use Rattle.std.proofs.lemmas.Bool.{cases_lt}
 use Rattle.std.proofs.lemmas.Bool.Decides.{nat_tests}
-use Rattle.least.specs.Minima.{NoMore, plus, capped, hits, over, Among}
+use Rattle.least.specs.Minima.{NoMore, lower, plus, capped, hits, over, Among}
 use Rattle.least.proofs.Minimal.{Within, plus_some, over_under, over_found}
 use Rattle.least.proofs.Folds.{LeastFrom}
 
-capped_below : (most : ℕ) (m : Option ℕ) → capped most m ≤ most
+pub capped_below : (most : ℕ) (m : Option ℕ) → capped most m ≤ most
 capped_below most None = omega arith
 capped_below most (Some m) = omega arith
+
+pub capped_lower : (most v : ℕ) (m : Option ℕ) → capped most (lower (Some v) m) ≡ min v (capped most m)
+capped_lower most v None = refl
+capped_lower most v (Some n) = omega arith
 
 pub capped_within : (most : ℕ) (m : Option ℕ) (v : ℕ) → Within m v → capped most m ≤ v
 capped_within most m v w = rw w.1 (omega (arith, w.2))

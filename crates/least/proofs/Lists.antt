@@ -1,5 +1,6 @@
 -- Members of lists that are made of lists, and which of them are met sooner. Assumes nothing.
-use Rattle.std.proofs.Common.{◌≡◌, ◌⊎◌, List, [], ◌∷◌, ◌++◌, map, sym, refl, ap, ◌∙◌, subst, inl, inr}
+use Rattle.std.proofs.Common.{◌≡◌, Bool, true, ◌⊎◌, List, [], ◌∷◌, ◌++◌, map, filter, sym, refl, ap, ◌∙◌, subst, inl, inr}
+use Rattle.std.proofs.lemmas.Bool.{both_ways, cases_Bool, cond-true, cond-false}
 use Rattle.least.specs.Minima.{joined, Among, Sooner}
 
 among_either : {A : Type 0} (x : A) (xs ys : List A) → Among x (xs ++ ys) → Among x xs ⊎ Among x ys
@@ -47,6 +48,39 @@ sooner_either x y (z ∷ zs) ys (inr p) =
     elim (sooner_either x y zs ys p.1) [
       | inl q ↦ inl (inr q.0, inr (p.0, q.1))
       | inr q ↦ inr (λ a. elim a [ inl e ↦ p.0 e | inr b ↦ q.0 b ], q.1)
+    ]
+
+-- what passes a test stands in the same order as before
+pub filter_from : {A : Type 0} (p : A → Bool) (x : A) (xs : List A) → Among x (filter p xs) → Among x xs × (p x ≡ true)
+filter_from p x [] a = absurd a
+filter_from p x (z ∷ zs) a =
+    elim (cases_Bool (p z)) [
+      | inl e ↦ elim (subst (Among x) (cond-true (p z) (z ∷ filter p zs) (filter p zs) e) a) [
+        | inl same ↦ (inl same, ap p same ∙ e)
+        | inr b ↦ let r = filter_from p x zs b in (inr r.0, r.1)
+      ]
+      | inr e ↦ let r = filter_from p x zs (subst (Among x) (cond-false (p z) (z ∷ filter p zs) (filter p zs) e) a) in (inr r.0, r.1)
+    ]
+
+pub filter_has : {A : Type 0} (p : A → Bool) (x : A) (xs : List A) → Among x xs → p x ≡ true → Among x (filter p xs)
+filter_has p x [] a h = absurd a
+filter_has p x (z ∷ zs) a h =
+    elim (cases_Bool (p z)) [
+      | inl e ↦ subst (Among x) (sym (cond-true (p z) (z ∷ filter p zs) (filter p zs) e)) (elim a [ inl same ↦ inl same | inr b ↦ inr (filter_has p x zs b h) ])
+      | inr e ↦
+          subst (Among x) (sym (cond-false (p z) (z ∷ filter p zs) (filter p zs) e))
+          (elim a [ inl same ↦ absurd (both_ways (p z) e (ap p (sym same) ∙ h)) | inr b ↦ filter_has p x zs b h ])
+    ]
+
+pub filter_sooner : {A : Type 0} (p : A → Bool) (x y : A) (xs : List A) → p y ≡ true → Sooner x y (filter p xs) → Sooner x y xs
+filter_sooner p x y [] h s = absurd s
+filter_sooner p x y (z ∷ zs) h s =
+    elim (cases_Bool (p z)) [
+      | inl e ↦ elim (subst (Sooner x y) (cond-true (p z) (z ∷ filter p zs) (filter p zs) e) s) [
+        | inl same ↦ inl same
+        | inr q ↦ inr (q.0, filter_sooner p x y zs h q.1)
+      ]
+      | inr e ↦ inr (λ same. both_ways (p z) e (ap p (sym same) ∙ h), filter_sooner p x y zs h (subst (Sooner x y) (cond-false (p z) (z ∷ filter p zs) (filter p zs) e) s))
     ]
 
 -- pairs, by their first parts and for each of these by the second parts that go with it

@@ -1,6 +1,6 @@
 -- Least costs and first members of lists: a bound that is reached is the only one, and the first member that passes a test is met first. Assumes nothing.
-use Rattle.std.proofs.Common.{◌≡◌, ℕ, ◌+◌, ◌≤◌, min, Bool, true, false, cond, ◌⊎◌, List, [], ◌∷◌, ◌++◌, Some, None, Option, sym, refl, ap, ◌∙◌, inl, inr, arith}
-use Rattle.std.specs.Option.{option_or}
+use Rattle.std.proofs.Common.{◌≡◌, ℕ, ◌+◌, ◌≤◌, min, Bool, true, false, cond, ◌⊎◌, List, [], ◌∷◌, ◌++◌, Some, None, Option, sym, refl, ap, ◌∙◌, subst, inl, inr, arith}
+use Rattle.std.specs.Option.{option_or, MatchOption}
 use Rattle.std.proofs.lemmas.Bool.{both_ways, cases_Bool, cases_cond, cases_lt, cond-false, cond-true, eq-eqb, eqb-true}
 use Rattle.std.proofs.lemmas.List.Folds.{find-append}
 use Rattle.std.proofs.lemmas.Option.{none-some}
@@ -125,7 +125,7 @@ over_least f xs P each =
     within_more (over f xs) u.0 v (no_more_some (over f xs) (f x) u.0 (over_under f x xs h.1) u.1) u.2)
 
 -- ---- the first of a list
-record First {A : Type 0} (t : A → Bool) (xs : List A) (x : A) : Type 0 where
+pub record First {A : Type 0} (t : A → Bool) (xs : List A) (x : A) : Type 0 where
   pub is : first t xs ≡ Some x
   pub among : Among x xs
   pub passes : t x ≡ true
@@ -153,6 +153,23 @@ pub first_among : {A : Type 0} (t : A → Bool) (x : A) (xs : List A) → first 
 first_among t x [] e = absurd (none-some x e)
 first_among t x (y ∷ ys) e =
     elim (cases_cond (t y) (Some y) (first t ys) (Some x) (sym e)) [ inl f ↦ inl (cc) | inr f ↦ inr (first_among t x ys (sym f)) ]
+
+first_passes : {A : Type 0} (t : A → Bool) (x : A) (xs : List A) → first t xs ≡ Some x → t x ≡ true
+first_passes t x [] e = absurd (none-some x e)
+first_passes t x (y ∷ ys) e =
+    elim (cases_Bool (t y)) [
+      | inl p ↦ let here : Some y ≡ Some x = sym (cond-true (t y) (Some y) (first t ys) p) ∙ e in let same : x ≡ y = cc in rw same p
+      | inr p ↦ first_passes t x ys (sym (cond-false (t y) (Some y) (first t ys) p) ∙ e)
+    ]
+
+-- what is found is the first, and where nothing is found nothing passes
+pub first_is : {A : Type 0} (t : A → Bool) (xs : List A) (o : Option A) → first t xs ≡ o → MatchOption o ((y : A) → Among y xs → t y ≡ false) (First t xs)
+first_is t xs None e =
+    λ y a. elim (cases_Bool (t y)) [ inl p ↦ let f = first_found t xs y a p in absurd (none-some f.0 (sym e ∙ f.1.is)) | inr p ↦ p ]
+first_is t xs (Some x) e =
+    let f = first_found t xs x (first_among t x xs e) (first_passes t x xs e) in
+    let same : Some f.0 ≡ Some x = sym f.1.is ∙ e in
+    subst (First t xs) (cc) f.1
 
 pub first_same : {A : Type 0} (t u : A → Bool) → ((x : A) → t x ≡ u x) → (xs : List A) → first t xs ≡ first u xs
 first_same t u e [] = refl

@@ -3,70 +3,79 @@ use Rattle.std.proofs.Common.{◌≡◌, ℕ, zero, suc, ◌+◌, ◌-◌, ◌<�
 use lib.Dec.{eqb-suc-zero}
 use Rattle.std.specs.Option.{option_or}
 use Rattle.std.proofs.lemmas.Bool.{cases_lt, leb-true, leb-false}
-use Rattle.least.specs.Minima.{Below, first, joined, Among, Sooner}
+use Rattle.least.specs.Minima.{Below, first, Among, Sooner}
 use Rattle.least.proofs.Minimal.{first_among, first_append}
 use Rattle.least.proofs.Folds.{LeastFrom, from_one, from_fold}
 use Rattle.least.proofs.Lists.{map_from, pairs_from, pairs_have, pairs_first, pairs_second}
 use Rattle.taps.specs.Readings.{pick, Book, Read, costs, lesser, over_tempi, over_kinds, first_tempo, first_read}
-use Rattle.taps.specs.Plain.{counted, read, all_reads}
+use Rattle.std.specs.List.{range_with_len}
+use Rattle.taps.specs.Plain.{read, reads_of, all_reads}
 use Rattle.taps.proofs.Picks.{pick_both}
 
 -- ---- numbers from k on
-counted_from : (i k n : ℕ) → Among i (counted k n) → (k ≤ i) × (i < k + n)
-unfolding counted
-counted_from i k zero a = absurd a
-counted_from i k (suc n) (inl e) = omega arith
-counted_from i k (suc n) (inr a) = omega (arith, counted_from i (suc k) n a)
+pub numbers_within : (i k n : ℕ) → Among i (range_with_len k n) → (k ≤ i) × (i < k + n)
+numbers_within i k zero a = absurd a
+numbers_within i k (suc n) (inl e) = omega arith
+numbers_within i k (suc n) (inr a) = omega (arith, numbers_within i (k + 1) n a)
 
-pub counted_has : (i k n : ℕ) → k ≤ i → i < k + n → Among i (counted k n)
-unfolding counted
-counted_has i k zero p q = absurd (omega arith)
-counted_has i k (suc n) p q = elim (cases_lt k i) [ inl l ↦ inr (counted_has i (suc k) n l (omega arith)) | inr l ↦ inl (omega arith) ]
+pub numbers_have : (i k n : ℕ) → k ≤ i → i < k + n → Among i (range_with_len k n)
+numbers_have i k zero p q = absurd (omega arith)
+numbers_have i k (suc n) p q = elim (cases_lt k i) [ inl l ↦ inr (numbers_have i (k + 1) n (omega arith) (omega arith)) | inr l ↦ inl (omega arith) ]
 
-counted_sooner : (i j k n : ℕ) → k ≤ j → Sooner i j (counted k n) → i ≤ j
-unfolding counted
-counted_sooner i j k zero p a = absurd a
-counted_sooner i j k (suc n) p (inl e) = omega arith
-counted_sooner i j k (suc n) p (inr a) = let past : (j ≡ k → ⊥) = a.0 in counted_sooner i j (suc k) n (omega arith) a.1
+pub numbers_sooner : (i j k n : ℕ) → k ≤ j → Sooner i j (range_with_len k n) → i ≤ j
+numbers_sooner i j k zero p a = absurd a
+numbers_sooner i j k (suc n) p (inl e) = omega arith
+numbers_sooner i j k (suc n) p (inr a) = let past : (j ≡ k → ⊥) = a.0 in numbers_sooner i j (k + 1) n (omega arith) a.1
 
 -- ---- reads of the book
+pub lesser_or_same : (j k : ℕ) (P : Type 0) → j ≤ k → (j ≡ k → P) → (j < k) ⊎ ((j ≡ k) × P)
+lesser_or_same j k P h p = elim (cases_lt j k) [ inl l ↦ inl l | inr l ↦ let same : j ≡ k = omega arith in inr (same, p same) ]
+
 same_kind : (j k t u : ℕ) → read j t ≡ read k u → j ≡ k
 same_kind j k t u e = ap (λ r. r.kind) e
 
 same_tempo : (j k t u : ℕ) → read j t ≡ read k u → t ≡ u
 same_tempo j k t u e = ap (λ r. r.tempo) e
 
+module _ (b : Book) (ks : List ℕ) where
+  abbrev tempi : List ℕ
+  tempi = range_with_len 0 (length b.tempi)
+
+  tempo_there : (t : ℕ) → t < length b.tempi → Among t tempi
+  tempo_there t h = numbers_have t 0 (length b.tempi) (omega arith) (omega arith)
+
+  pub of_kinds : (r : Read) → Among r (reads_of b ks) → Among r.kind ks × (r.tempo < length b.tempi)
+  of_kinds r a = let p = pairs_from read (λ _. tempi) r ks a in rw p.4 (p.2, omega (arith, numbers_within p.1 0 (length b.tempi) p.3))
+
+  pub kinds_have : (r : Read) → Among r.kind ks → r.tempo < length b.tempi → Among r (reads_of b ks)
+  kinds_have r a h = pairs_have read (λ _. tempi) r.kind r.tempo ks a (tempo_there r.tempo h)
+
+  -- they are met by kind, and then by tempo
+  pub kinds_sooner : (r s : Read) → s.tempo < length b.tempi → Sooner r s (reads_of b ks) → Sooner r.kind s.kind ks × (r.kind ≡ s.kind → r.tempo ≤ s.tempo)
+  kinds_sooner r s h a = (
+    pairs_first read (λ _. tempi) same_kind same_tempo r.kind s.kind r.tempo s.tempo (tempo_there s.tempo h) ks a,
+    λ same.
+        let by_tempo = pairs_second read (λ _. tempi) same_kind same_tempo r.kind s.kind r.tempo s.tempo (tempo_there s.tempo h) ks same a in
+        numbers_sooner r.tempo s.tempo 0 (length b.tempi) (omega arith) by_tempo,
+  )
+
 module _ (b : Book) where
   abbrev kinds : List ℕ
-  kinds = counted 0 (length b.kinds)
-
-  abbrev tempi : List ℕ
-  tempi = counted 0 (length b.tempi)
+  kinds = range_with_len 0 (length b.kinds)
 
   abbrev pub In : Read → Type 0
   In r = (r.kind < length b.kinds) × (r.tempo < length b.tempi)
 
   pub reads_in : (r : Read) → Among r (all_reads b) → In r
-  reads_in r a =
-      let p = pairs_from read (λ _. tempi) r kinds a in
-      rw p.4 (omega (arith, counted_from p.0 0 (length b.kinds) p.2), omega (arith, counted_from p.1 0 (length b.tempi) p.3))
-
-  there : (r : Read) → In r → Among r.kind kinds × Among r.tempo tempi
-  there r i = (counted_has r.kind 0 (length b.kinds) (omega arith) (omega arith), counted_has r.tempo 0 (length b.tempi) (omega arith) (omega arith))
+  reads_in r a = let p = of_kinds b kinds r a in (omega (arith, numbers_within r.kind 0 (length b.kinds) p.0), p.1)
 
   pub reads_all : (r : Read) → In r → Among r (all_reads b)
-  reads_all r i = pairs_have read (λ _. tempi) r.kind r.tempo kinds (there r i).0 (there r i).1
+  reads_all r i = kinds_have b kinds r (numbers_have r.kind 0 (length b.kinds) (omega arith) (omega arith)) i.1
 
-  -- they are met by kind, and then by tempo
   pub reads_sooner : (r s : Read) → In s → Sooner r s (all_reads b) → (r.kind < s.kind) ⊎ ((r.kind ≡ s.kind) × (r.tempo ≤ s.tempo))
   reads_sooner r s i a =
-      let by_kind = pairs_first read (λ _. tempi) same_kind same_tempo r.kind s.kind r.tempo s.tempo (there s i).1 kinds a in
-      let by-tempo = pairs_second read (λ _. tempi) same_kind same_tempo r.kind s.kind r.tempo s.tempo (there s i).1 kinds in
-      let no-later = counted_sooner r.kind s.kind 0 (length b.kinds) (omega arith) by_kind in
-      elim (cases_lt r.kind s.kind) [
-        | inl l ↦ inl l
-        | inr l ↦ let same : r.kind ≡ s.kind = omega arith in inr (same, counted_sooner r.tempo s.tempo 0 (length b.tempi) (omega arith) (by-tempo same a))
-      ]
+      let p = kinds_sooner b kinds r s i.1 a in
+      lesser_or_same r.kind s.kind (r.tempo ≤ s.tempo) (numbers_sooner r.kind s.kind 0 (length b.kinds) (omega arith) p.0) p.1
 
 -- ---- the loops
 lesser_min : (x a : ℕ) → lesser x a ≡ min a x
@@ -102,22 +111,26 @@ module _ (b : Book) (before g : ℕ) (rest : ℕ → ℕ) where
     place_cond true r n o e = refl
     place_cond false r n o e = e
 
-    tempo_first : (k n t : ℕ) → first_tempo b before g k n t rest cost ≡ place (first meets (map (read k) (counted t n)))
-    unfolding first_tempo counted
+    tempo_first : (k n t : ℕ) → first_tempo b before g k n t rest cost ≡ place (first meets (map (read k) (range_with_len t n)))
+    unfolding first_tempo
     tempo_first k zero t = refl
-    tempo_first k (suc n) t = place_cond (meets (read k t)) (read k t) _ (first meets (map (read k) (counted (suc t) n))) (tempo_first k n (suc t))
+    tempo_first k (suc n) t =
+        let next : suc t ≡ t + 1 = omega arith in
+        place_cond (meets (read k t)) (read k t) _ (first meets (map (read k) (range_with_len (t + 1) n))) (ap (λ u. first_tempo b before g k n u rest cost) next ∙ tempo_first k n (t + 1))
 
     kind_either : (k : ℕ) (o p : Option Read) (d : Read) → ((r : Read) → o ≡ Some r → r.kind ≡ k) → pick (eqb (place o) 0) (unwrap_or p d) (read k (place o - 1)) ≡ unwrap_or (option_or o p) d
     kind_either k None p d h = refl
     kind_either k (Some r) p d h = rw (eqb-suc-zero r.tempo) (let back : suc r.tempo - 1 ≡ r.tempo = omega arith in λ i. read (sym (h r refl) i) (back i))
 
-    pub read_first : (n k : ℕ) → first_read b before g n k rest cost ≡ unwrap_or (first meets (joined (λ j. map (read j) (counted 0 (length b.tempi))) (counted k n))) (read 0 0)
-    unfolding first_read counted
+    pub read_first : (n k : ℕ) → first_read b before g n k rest cost ≡ unwrap_or (first meets (reads_of b (range_with_len k n))) (read 0 0)
+    unfolding first_read
     read_first zero k = refl
     read_first (suc n) k =
-        let here : List Read = map (read k) (counted 0 (length b.tempi)) in
-        let later : List Read = joined (λ j. map (read j) (counted 0 (length b.tempi))) (counted (suc k) n) in
-        (λ i. pick (eqb (tempo_first k (length b.tempi) 0 i) 0) (read_first n (suc k) i) (read k (tempo_first k (length b.tempi) 0 i - 1)))
+        let here : List Read = map (read k) (range_with_len 0 (length b.tempi)) in
+        let later : List Read = reads_of b (range_with_len (k + 1) n) in
+        let next : suc k ≡ k + 1 = omega arith in
+        let after = ap (λ j. first_read b before g n j rest cost) next ∙ read_first n (k + 1) in
+        (λ i. pick (eqb (tempo_first k (length b.tempi) 0 i) 0) (after i) (read k (tempo_first k (length b.tempi) 0 i - 1)))
         ∙ kind_either k (first meets here) (first meets later) (read 0 0)
-        (λ r e. let m = map_from (read k) r (counted 0 (length b.tempi)) (first_among meets r here e) in ap (λ x. x.kind) m.2)
+        (λ r e. let m = map_from (read k) r (range_with_len 0 (length b.tempi)) (first_among meets r here e) in ap (λ x. x.kind) m.2)
         ∙ ap (λ o. unwrap_or o (read 0 0)) (sym (first_append meets here later))

@@ -1,11 +1,12 @@
 -- Good tempi as `is_sorted_by` and `all` test them; and that what a book of the code stands for is a good book.
-use Rattle.std.proofs.Common.{◌≡◌, ℕ, zero, suc, ◌+◌, Bool, true, false, ◌&&◌, ltb, leb, List, [], ◌∷◌, map, length, take, get_or, refl, ap, ◌∙◌, arith}
+use Rattle.std.proofs.Common.{◌≡◌, ℕ, zero, suc, ◌+◌, Bool, true, false, ◌&&◌, ltb, leb, List, [], ◌∷◌, map, length, get_or, refl, ap, ◌∙◌, arith}
 use Rattle.std.proofs.lemmas.List.{length-map, length-take-le}
 use Rattle.std.proofs.lemmas.Bool.{and_from, le-leb, lt-ltb}
 use Rattle.std.proofs.lemmas.Bool.Decides.{nat_tests}
 use Rattle.std.specs.List.{IsAllAdjacentAnswer, list_all}
 use Rattle.taps.specs.Promise.{good_kinds, good_tempi, GoodBook}
-use Rattle.taps.specs.Values.{kind_of, book_of}
+use Rattle.taps.specs.Items.{items}
+use Rattle.taps.specs.Values.{kind_of, kinds_of, tempi_of, book_of}
 use Rattle.taps.specs.declared.kind.Kind.{Kind}
 use Rattle.taps.specs.declared.book.Book.{Book}
 
@@ -36,11 +37,16 @@ good_each [] = refl
 good_each (k ∷ ks) =
     and_from _ _ (and_from _ _ (and_from _ _ (le-leb 1 k.ticks k.some) (le-leb k.ticks 96 k.short)) (lt-ltb k.weight 16777216 k.light)) (good_each ks)
 
+pub kind_count : (b : Book) → length (kinds_of b.kinds) ≡ b.kinds.list.count
+kind_count b = length-map (items b.kinds.list) kind_of ∙ length-take-le _ b.kinds.list.all (omega (arith, b.kinds.list.whole, b.kinds.list.few))
+
+pub tempo_count : (b : Book) → length (tempi_of b.tempi) ≡ b.tempi.list.count
+tempo_count b = length-take-le _ b.tempi.list.all (omega (arith, b.tempi.list.whole, b.tempi.list.few))
+
 pub book_is_good : (b : Book) → GoodBook (book_of b)
 book_is_good b =
-    let kinds : length (map kind_of (take b.kinds.list.count b.kinds.list.all)) ≡ b.kinds.list.count =
-    length-map _ kind_of ∙ length-take-le _ b.kinds.list.all (omega (arith, b.kinds.list.whole, b.kinds.list.few)) in
-    let tempi : length (take b.tempi.list.count b.tempi.list.all) ≡ b.tempi.list.count = length-take-le _ b.tempi.list.all (omega (arith, b.tempi.list.whole, b.tempi.list.few)) in (
+    let kinds = kind_count b in
+    let tempi = tempo_count b in (
       omega (arith, kinds, b.kinds.some),
       omega (arith, kinds, b.kinds.list.few),
       good_each _,

@@ -9,8 +9,9 @@ use Rattle.least.proofs.Folds.{from_same}
 use Rattle.least.proofs.Capped.{capped_some, capped_hits, capped_from}
 use Rattle.least.proofs.Trying.{suffix_tried, told_tried}
 use Rattle.taps.specs.Readings.{Book, Read, costs, all_cost, in_book, too_much, least, first_read, reading}
-use Rattle.taps.specs.Plain.{counted, read, all_reads, plain, Plain, Finite, Tried}
-use Rattle.taps.proofs.Gap.{counted_has, In, reads_in, reads_all, with, meets, kinds_least, read_first}
+use Rattle.std.specs.List.{range_with_len}
+use Rattle.taps.specs.Plain.{read, all_reads, plain, Plain, Finite, Tried}
+use Rattle.taps.proofs.Gap.{numbers_have, In, reads_in, reads_all, with, meets, kinds_least, read_first}
 
 module _ (b : Book) where
   in_parts : (r : Read) (rs : List Read) → in_book b (r ∷ rs) ≡ true → In b r × (in_book b rs ≡ true)
@@ -103,12 +104,12 @@ pub finite_stands : Finite
 unfolding Finite
 finite_stands b = (
   record {
-    all = counted 0 (suc (length b.tempi));
+    all = range_with_len 0 (suc (length b.tempi));
     same = eqb;
     same_is = eqb-true;
     is_same = λ s. eq-eqb s s refl;
-    starts_in = λ s a. elim a [ inl e ↦ counted_has s 0 (suc (length b.tempi)) (omega arith) (omega arith) | inr none ↦ absurd none ];
-    next_in = λ s g r a i. counted_has (suc r.tempo) 0 (suc (length b.tempi)) (omega arith) (omega (arith, (reads_in b r i).1));
+    starts_in = λ s a. elim a [ inl e ↦ numbers_have s 0 (suc (length b.tempi)) (omega arith) (omega arith) | inr none ↦ absurd none ];
+    next_in = λ s g r a i. numbers_have (suc r.tempo) 0 (suc (length b.tempi)) (omega arith) (omega (arith, (reads_in b r i).1));
   },
   refl,
 )

@@ -4,7 +4,7 @@ use Rattle.least.specs.Minima.{capped, over, cheapest}
 use Rattle.least.specs.Readers.{readings}
 use Rattle.taps.specs.Readings.{Book, Read, all_cost, too_much, least, reading}
 use Rattle.taps.specs.Calls.{gaps}
-use Rattle.taps.specs.Plain.{counted, read, plain, Tried}
+use Rattle.taps.specs.Plain.{read, plain, Tried}
 use Rattle.taps.specs.Worked.{worked, notes, TwoTaps, OneTap}
 use Rattle.taps.proofs.Plain.{tried_stands}
 
@@ -19,7 +19,7 @@ by_trying b gs m rs small e f =
     (is, cc)
 
 pub two_taps_stands : TwoTaps
-unfolding TwoTaps gaps readings counted all_cost
+unfolding TwoTaps gaps readings all_cost
 two_taps_stands = let h = by_trying worked (240 ∷ []) 720 (read 1 1 ∷ []) (omega arith) refl refl in (h.0, ap (notes worked) h.1)
 
 pub one_tap_stands : OneTap

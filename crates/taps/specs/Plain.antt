@@ -2,22 +2,21 @@
 --
 -- A step is a gap; a state is the tempo before, as `before` is; a choice is a Read, kinds first and then tempi.
 -- Plain, Finite: readings, the least and the reading told are the general reader's, so that all of its laws hold of them. Tried: they are what trying all readings gives.
-use Rattle.std.specs.Prelude.{◌≡◌, ℕ, zero, suc, ◌<◌, true, List, [], ◌∷◌, map, length, Some}
+use Rattle.std.specs.Prelude.{◌≡◌, ℕ, suc, ◌<◌, true, List, [], ◌∷◌, map, length, Some}
+use Rattle.std.specs.List.{range_with_len}
 use Rattle.least.specs.Minima.{capped, over, joined, cheapest}
 use Rattle.least.specs.Readers.{Reader, Reads, total, suffix, told, readings, States}
 use Rattle.taps.specs.Readings.{Book, Read, costs, all_cost, in_book, too_much, least, reading}
 
--- n numbers from k on
-unfoldable pub counted : ℕ → ℕ → List ℕ
-counted k zero = []
-counted k (suc n) = k ∷ counted (suc k) n
-
 abbrev pub read : ℕ → ℕ → Read
 read k t = record { kind = k; tempo = t }
 
--- what a gap may be read as
+-- what a gap may be read as, as some of the kinds and as all of them: kinds first, and then tempi
+abbrev pub reads_of : Book → List ℕ → List Read
+reads_of b ks = joined (λ k. map (read k) (range_with_len 0 (length b.tempi))) ks
+
 abbrev pub all_reads : Book → List Read
-all_reads b = joined (λ k. map (read k) (counted 0 (length b.tempi))) (counted 0 (length b.kinds))
+all_reads b = reads_of b (range_with_len 0 (length b.kinds))
 
 abbrev pub plain : Book → Reader ℕ ℕ Read
 plain b = record { starts = 0 ∷ []; entry = λ _. 0; choices = λ _ _. all_reads b; cost = costs b; next = λ _ _ r. suc r.tempo }
@@ -35,7 +34,7 @@ Plain = (b : Book) (before : ℕ) (gs : List ℕ) → Same b before gs
 
 -- its states are finitely many: no tempo before, or one of the book's
 unfoldable pub Finite : Type 0
-Finite = (b : Book) → (st : States (plain b)) × (st.all ≡ counted 0 (suc (length b.tempi)))
+Finite = (b : Book) → (st : States (plain b)) × (st.all ≡ range_with_len 0 (suc (length b.tempi)))
 
 -- the same by trying all readings in their order
 unfoldable pub Tried : Type 0

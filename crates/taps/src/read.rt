@@ -8,6 +8,9 @@ use crate::tempi::MOST_TEMPI;
 
 // How many gaps a reading may have.
 pub const MOST_GAPS: usize = MOST_TAPS - 1;
+// More than any reading of so many gaps costs. Where there is nothing to choose from, this stands for the cost; twice as
+// much still fits, so that a sum of two costs can be cut back to it.
+pub const TOO_MUCH: u64 = (1 << 63) - 1;
 
 // A gap is read as a kind at a tempo, by their places in the book.
 #[derive(Clone, Copy, PartialEq, Eq, Debug)]
