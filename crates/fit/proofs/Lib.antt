@@ -1,0 +1,5 @@
+mod Left
+mod Priced
+mod Row
+mod Meeting
+mod Sound

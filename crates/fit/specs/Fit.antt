@@ -1,0 +1,38 @@
+-- What a gap costs as each kind at each tempo, and the first read with which a cost is met. Assumes nothing: these are definitions.
+--
+-- set: the kinds that the gap may be read as, as the bits of a number. rest: what follows costs, by the tempo that it comes after.
+-- fit: what a gap costs as a kind at a tempo, by their places in the book, but for the change of tempo: what it costs as the first gap.
+-- fits: a row with the least such cost at each tempo. first_meeting: the first read, by kinds and then by tempi, with which the gap and what follows cost just so much.
+use Rattle.std.specs.Prelude.{ℕ, suc, ◌+◌, Bool, List, map, length, filter, Some, None, Option, ◌==◌, slice_index}
+use Rattle.std.specs.List.{range_with_len}
+use Rattle.bitset.specs.Members.{member}
+use Rattle.least.specs.Minima.{capped, over, first}
+use Rattle.taps.specs.Readings.{Book, Read, costs, too_much}
+use Rattle.taps.specs.Plain.{read, reads_of}
+
+abbrev pub fit : Book → ℕ → ℕ → ℕ → ℕ
+fit b gap k t = costs b 0 gap (read k t)
+
+-- the kinds that the gap may be read as, in the order of the book
+abbrev pub allowed : Book → ℕ → List ℕ
+allowed b set = filter (member set) (range_with_len 0 (length b.kinds))
+
+-- the least that the gap costs at a tempo; None where it may be read as no kind
+abbrev pub least_fit : Book → ℕ → ℕ → ℕ → Option ℕ
+least_fit b set gap t = over (λ k. Some (fit b gap k t)) (allowed b set)
+
+-- where there is none, `too_much`
+abbrev pub fits : Book → ℕ → ℕ → List ℕ
+fits b set gap = map (λ t. capped too_much (least_fit b set gap t)) (range_with_len 0 (length b.tempi))
+
+-- read so, the gap and what follows it cost just so much
+abbrev pub meets : Book → ℕ → ℕ → List ℕ → ℕ → Read → Bool
+meets b before gap rest cost r = costs b before gap r + slice_index rest r.tempo == cost
+
+abbrev pub first_meeting : Book → ℕ → ℕ → ℕ → List ℕ → ℕ → Option Read
+first_meeting b set before gap rest cost = first (meets b before gap rest cost) (reads_of b (allowed b set))
+
+-- the tempo before, by its place, as the definitions of readings have it
+abbrev pub before_of : Option ℕ → ℕ
+before_of None = 0
+before_of (Some s) = suc s
