@@ -6,9 +6,9 @@ fn sets_have_their_numbers(rt: HostRuntime) {
     for i in 0..40usize {
         assert!(rt; BitSet::full().has(i) == (i < 32));
         assert!(rt; BitSet::only(5).has(i) == (i == 5));
-        assert!(rt; BitSet::only(33).has(i) == false);
+        assert!(rt; !BitSet::only(33).has(i));
         assert!(rt; BitSet::full().without(31).has(i) == (i < 31));
-        assert!(rt; BitSet::only(5).without(5).has(i) == false);
+        assert!(rt; !BitSet::only(5).without(5).has(i));
         assert!(rt; BitSet::only(5).without(37).has(i) == (i == 5));
     }
 }

@@ -22,51 +22,51 @@ module _ (b : Book) (before gap : ℕ) (rest : List ℕ) (cost : ℕ) where
   tested k t w (Some d) e h = grind (arith, nat_tests)
 
   -- the first read of some kinds, and of one kind at some tempi
-  abbrev of_kinds : List ℕ → Option Read
-  of_kinds ks = first (meets b before gap rest cost) (reads_of b ks)
+  abbrev first_of_kinds : List ℕ → Option Read
+  first_of_kinds ks = first (meets b before gap rest cost) (reads_of b ks)
 
-  abbrev of_tempi : ℕ → List ℕ → Option Read
-  of_tempi k ts = first (meets b before gap rest cost) (map (read k) ts)
+  abbrev first_of_tempi : ℕ → List ℕ → Option Read
+  first_of_tempi k ts = first (meets b before gap rest cost) (map (read k) ts)
 
   module _ (set : ℕ) where
     -- from the kind k on; and from the tempo t on with the kind k, and then with later kinds
     unfoldable pub later : ℕ → Option Read
-    later k = of_kinds (filter (member set) (left (length b.kinds) k))
+    later k = first_of_kinds (filter (member set) (left (length b.kinds) k))
 
     unfoldable pub here : ℕ → ℕ → Option Read
-    here k t = option_or (of_tempi k (left (length b.tempi) t)) (later (k + 1))
+    here k t = option_or (first_of_tempi k (left (length b.tempi) t)) (later (k + 1))
 
     pub later_all : later 0 ≡ first_meeting b set before gap rest cost
     unfolding later
-    later_all = ap (λ ks. of_kinds (filter (member set) ks)) (left_all (length b.kinds))
+    later_all = ap (λ ks. first_of_kinds (filter (member set) ks)) (left_all (length b.kinds))
 
     pub later_none : (k : ℕ) → length b.kinds ≤ k → later k ≡ None
     unfolding later
-    later_none k h = ap (λ ks. of_kinds (filter (member set) ks)) (left_none (length b.kinds) k h)
+    later_none k h = ap (λ ks. first_of_kinds (filter (member set) ks)) (left_none (length b.kinds) k h)
 
     pub later_past : (k : ℕ) → k < length b.kinds → member set k ≡ false → later k ≡ later (k + 1)
     unfolding later
-    later_past k h e = ap of_kinds (failing (member set) (length b.kinds) k h e)
+    later_past k h e = ap first_of_kinds (failing (member set) (length b.kinds) k h e)
 
     pub later_has : (k : ℕ) → k < length b.kinds → member set k ≡ true → later k ≡ here k 0
     unfolding later here
     later_has k h e =
-        ap of_kinds (passing (member set) (length b.kinds) k h e)
+        ap first_of_kinds (passing (member set) (length b.kinds) k h e)
         ∙ first_append (meets b before gap rest cost) (map (read k) (range_with_len 0 (length b.tempi))) _
-        ∙ ap (λ ts. option_or (of_tempi k ts) (later (k + 1))) (sym (left_all (length b.tempi)))
+        ∙ ap (λ ts. option_or (first_of_tempi k ts) (later (k + 1))) (sym (left_all (length b.tempi)))
 
     pub here_none : (k t : ℕ) → length b.tempi ≤ t → here k t ≡ later (k + 1)
     unfolding here
-    here_none k t h = ap (λ ts. option_or (of_tempi k ts) (later (k + 1))) (left_none (length b.tempi) t h)
+    here_none k t h = ap (λ ts. option_or (first_of_tempi k ts) (later (k + 1))) (left_none (length b.tempi) t h)
 
     pub here_met : (k t : ℕ) → t < length b.tempi → met k t ≡ true → here k t ≡ Some (read k t)
     unfolding here
     here_met k t h e =
-        ap (λ ts. option_or (of_tempi k ts) (later (k + 1))) (left_one (length b.tempi) t h)
-        ∙ ap (λ o. option_or o (later (k + 1))) (cond-true (met k t) (Some (read k t)) (of_tempi k (left (length b.tempi) (t + 1))) e)
+        ap (λ ts. option_or (first_of_tempi k ts) (later (k + 1))) (left_one (length b.tempi) t h)
+        ∙ ap (λ o. option_or o (later (k + 1))) (cond-true (met k t) (Some (read k t)) (first_of_tempi k (left (length b.tempi) (t + 1))) e)
 
     pub here_past : (k t : ℕ) → t < length b.tempi → met k t ≡ false → here k t ≡ here k (t + 1)
     unfolding here
     here_past k t h e =
-        ap (λ ts. option_or (of_tempi k ts) (later (k + 1))) (left_one (length b.tempi) t h)
-        ∙ ap (λ o. option_or o (later (k + 1))) (cond-false (met k t) (Some (read k t)) (of_tempi k (left (length b.tempi) (t + 1))) e)
+        ap (λ ts. option_or (first_of_tempi k ts) (later (k + 1))) (left_one (length b.tempi) t h)
+        ∙ ap (λ o. option_or o (later (k + 1))) (cond-false (met k t) (Some (read k t)) (first_of_tempi k (left (length b.tempi) (t + 1))) e)

@@ -10,22 +10,33 @@ use taps::kinds::{Kinds, MOST_KINDS};
 use taps::read::{Read, TOO_MUCH};
 use taps::tempi::{MOST_TEMPI, Tempi};
 
-fn kind(ticks: u8, weight: u32) -> Kind {
-    Kind::new(ticks, weight).unwrap_or(Kind {
-        ticks: 1,
-        weight: 0,
-    })
-}
-
 fn worked() -> Option<Book>
     ensures { IfSome result (λ b. (b.tempi.list.count ≡ 4) × (b.kinds.list.count ≡ 6)) }
 {
-    let mut kinds = [kind(3, 2400); MOST_KINDS];
-    kinds[1] = kind(6, 600);
-    kinds[2] = kind(12, 0);
-    kinds[3] = kind(24, 600);
-    kinds[4] = kind(8, 3000);
-    kinds[5] = kind(4, 3600);
+    let mut kinds = [Kind {
+        ticks: 3,
+        weight: 2400,
+    }; MOST_KINDS];
+    kinds[1] = Kind {
+        ticks: 6,
+        weight: 600,
+    };
+    kinds[2] = Kind {
+        ticks: 12,
+        weight: 0,
+    };
+    kinds[3] = Kind {
+        ticks: 24,
+        weight: 600,
+    };
+    kinds[4] = Kind {
+        ticks: 8,
+        weight: 3000,
+    };
+    kinds[5] = Kind {
+        ticks: 4,
+        weight: 3600,
+    };
     let mut tempi = [400; MOST_TEMPI];
     tempi[1] = 500;
     tempi[2] = 600;
@@ -59,8 +70,8 @@ fn the_first_read_by_kinds_and_then_by_tempi(rt: HostRuntime) -> Result<(), Fail
     let eighth = Some(Read { kind: 1, tempo: 1 });
     assert!(rt; first_met(&book, all, None, 240, &[0; 4], 720) == eighth);
     assert!(rt; first_met(&book, all, Some(3), 240, &[0; 4], 5720) == eighth);
-    assert!(rt; first_met(&book, all, None, 240, &[0; 4], 719) == None);
-    assert!(rt; first_met(&book, all.without(1), None, 240, &[0; 4], 720) == None);
+    assert!(rt; first_met(&book, all, None, 240, &[0; 4], 719).is_none());
+    assert!(rt; first_met(&book, all.without(1), None, 240, &[0; 4], 720).is_none());
     // the first tempo of two: 6@400 and 6@500
     assert!(rt;
         first_met(&book, all, None, 240, &[0, 360, 0, 0], 1080) == Some(Read { kind: 1, tempo: 0 })

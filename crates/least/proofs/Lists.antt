@@ -1,6 +1,7 @@
 -- Members of lists that are made of lists, and which of them are met sooner. Assumes nothing.
-use Rattle.std.proofs.Common.{◌≡◌, Bool, true, ◌⊎◌, List, [], ◌∷◌, ◌++◌, map, filter, sym, refl, ap, ◌∙◌, subst, inl, inr}
-use Rattle.std.proofs.lemmas.Bool.{both_ways, cases_Bool, cond-true, cond-false}
+use Rattle.std.proofs.Common.{◌≡◌, ℕ, zero, suc, ◌+◌, ◌<◌, ◌≤◌, Bool, true, ◌⊎◌, List, [], ◌∷◌, ◌++◌, map, filter, sym, refl, ap, ◌∙◌, subst, inl, inr, arith}
+use Rattle.std.specs.List.{range_with_len}
+use Rattle.std.proofs.lemmas.Bool.{both_ways, cases_Bool, cases_lt, cond-true, cond-false}
 use Rattle.least.specs.Minima.{joined, Among, Sooner}
 
 among_either : {A : Type 0} (x : A) (xs ys : List A) → Among x (xs ++ ys) → Among x xs ⊎ Among x ys
@@ -126,3 +127,18 @@ module _ {A B C : Type 0} (pair : A → B → C) (seconds : A → List B) (left 
           | inl q ↦ let same : a ≡ x = first_is x q.0 in subst (λ y. Sooner b d (seconds y)) (sym same) (sooner_second x a c b d (seconds x) (sym e ∙ same) q.1)
           | inr q ↦ pairs_second xs e q.1
         ]
+
+-- numbers from k on
+pub numbers_within : (i k n : ℕ) → Among i (range_with_len k n) → (k ≤ i) × (i < k + n)
+numbers_within i k zero a = absurd a
+numbers_within i k (suc n) (inl e) = omega arith
+numbers_within i k (suc n) (inr a) = omega (arith, numbers_within i (k + 1) n a)
+
+pub numbers_have : (i k n : ℕ) → k ≤ i → i < k + n → Among i (range_with_len k n)
+numbers_have i k zero p q = absurd (omega arith)
+numbers_have i k (suc n) p q = elim (cases_lt k i) [ inl l ↦ inr (numbers_have i (k + 1) n (omega arith) (omega arith)) | inr l ↦ inl (omega arith) ]
+
+pub numbers_sooner : (i j k n : ℕ) → k ≤ j → Sooner i j (range_with_len k n) → i ≤ j
+numbers_sooner i j k zero p a = absurd a
+numbers_sooner i j k (suc n) p (inl e) = omega arith
+numbers_sooner i j k (suc n) p (inr a) = let past : (j ≡ k → ⊥) = a.0 in numbers_sooner i j (k + 1) n (omega arith) a.1

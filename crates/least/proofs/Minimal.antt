@@ -1,7 +1,7 @@
 -- Least costs and first members of lists: a bound that is reached is the only one, and the first member that passes a test is met first. Assumes nothing.
 use Rattle.std.proofs.Common.{◌≡◌, ℕ, ◌+◌, ◌≤◌, min, Bool, true, false, cond, ◌⊎◌, List, [], ◌∷◌, ◌++◌, Some, None, Option, sym, refl, ap, ◌∙◌, subst, inl, inr, arith}
 use Rattle.std.specs.Option.{option_or, MatchOption}
-use Rattle.std.proofs.lemmas.Bool.{both_ways, cases_Bool, cases_cond, cases_lt, cond-false, cond-true, eq-eqb, eqb-true}
+use Rattle.std.proofs.lemmas.Bool.{both_ways, cases_Bool, cases_lt, cond-false, cond-true, eq-eqb, eqb-true}
 use Rattle.std.proofs.lemmas.List.Folds.{find-append}
 use Rattle.std.proofs.lemmas.Option.{none-some}
 use Rattle.least.specs.Minima.{Least, NoMore, lower, plus, both, hits, over, first, and_then, cheapest, Among, Sooner}
@@ -149,17 +149,12 @@ first_found {A = A} t (z ∷ zs) y a h =
           )
     ]
 
-pub first_among : {A : Type 0} (t : A → Bool) (x : A) (xs : List A) → first t xs ≡ Some x → Among x xs
-first_among t x [] e = absurd (none-some x e)
-first_among t x (y ∷ ys) e =
-    elim (cases_cond (t y) (Some y) (first t ys) (Some x) (sym e)) [ inl f ↦ inl (cc) | inr f ↦ inr (first_among t x ys (sym f)) ]
-
-first_passes : {A : Type 0} (t : A → Bool) (x : A) (xs : List A) → first t xs ≡ Some x → t x ≡ true
-first_passes t x [] e = absurd (none-some x e)
-first_passes t x (y ∷ ys) e =
+pub first_from : {A : Type 0} (t : A → Bool) (x : A) (xs : List A) → first t xs ≡ Some x → Among x xs × (t x ≡ true)
+first_from t x [] e = absurd (none-some x e)
+first_from t x (y ∷ ys) e =
     elim (cases_Bool (t y)) [
-      | inl p ↦ let here : Some y ≡ Some x = sym (cond-true (t y) (Some y) (first t ys) p) ∙ e in let same : x ≡ y = cc in rw same p
-      | inr p ↦ first_passes t x ys (sym (cond-false (t y) (Some y) (first t ys) p) ∙ e)
+      | inl p ↦ let here : Some y ≡ Some x = sym (cond-true (t y) (Some y) (first t ys) p) ∙ e in let same : x ≡ y = cc in (inl same, rw same p)
+      | inr p ↦ let r = first_from t x ys (sym (cond-false (t y) (Some y) (first t ys) p) ∙ e) in (inr r.0, r.1)
     ]
 
 -- what is found is the first, and where nothing is found nothing passes
@@ -167,7 +162,8 @@ pub first_is : {A : Type 0} (t : A → Bool) (xs : List A) (o : Option A) → fi
 first_is t xs None e =
     λ y a. elim (cases_Bool (t y)) [ inl p ↦ let f = first_found t xs y a p in absurd (none-some f.0 (sym e ∙ f.1.is)) | inr p ↦ p ]
 first_is t xs (Some x) e =
-    let f = first_found t xs x (first_among t x xs e) (first_passes t x xs e) in
+    let from = first_from t x xs e in
+    let f = first_found t xs x from.0 from.1 in
     let same : Some f.0 ≡ Some x = sym f.1.is ∙ e in
     subst (First t xs) (cc) f.1
 

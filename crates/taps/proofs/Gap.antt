@@ -4,28 +4,13 @@ use lib.Dec.{eqb-suc-zero}
 use Rattle.std.specs.Option.{option_or}
 use Rattle.std.proofs.lemmas.Bool.{cases_lt, leb-true, leb-false}
 use Rattle.least.specs.Minima.{Below, first, Among, Sooner}
-use Rattle.least.proofs.Minimal.{first_among, first_append}
+use Rattle.least.proofs.Minimal.{first_from, first_append}
 use Rattle.least.proofs.Folds.{LeastFrom, from_one, from_fold}
-use Rattle.least.proofs.Lists.{map_from, pairs_from, pairs_have, pairs_first, pairs_second}
+use Rattle.least.proofs.Lists.{map_from, numbers_within, numbers_have, numbers_sooner, pairs_from, pairs_have, pairs_first, pairs_second}
 use Rattle.taps.specs.Readings.{pick, Book, Read, costs, lesser, over_tempi, over_kinds, first_tempo, first_read}
 use Rattle.std.specs.List.{range_with_len}
 use Rattle.taps.specs.Plain.{read, reads_of, all_reads}
 use Rattle.taps.proofs.Picks.{pick_both}
-
--- ---- numbers from k on
-pub numbers_within : (i k n : ℕ) → Among i (range_with_len k n) → (k ≤ i) × (i < k + n)
-numbers_within i k zero a = absurd a
-numbers_within i k (suc n) (inl e) = omega arith
-numbers_within i k (suc n) (inr a) = omega (arith, numbers_within i (k + 1) n a)
-
-pub numbers_have : (i k n : ℕ) → k ≤ i → i < k + n → Among i (range_with_len k n)
-numbers_have i k zero p q = absurd (omega arith)
-numbers_have i k (suc n) p q = elim (cases_lt k i) [ inl l ↦ inr (numbers_have i (k + 1) n (omega arith) (omega arith)) | inr l ↦ inl (omega arith) ]
-
-pub numbers_sooner : (i j k n : ℕ) → k ≤ j → Sooner i j (range_with_len k n) → i ≤ j
-numbers_sooner i j k zero p a = absurd a
-numbers_sooner i j k (suc n) p (inl e) = omega arith
-numbers_sooner i j k (suc n) p (inr a) = let past : (j ≡ k → ⊥) = a.0 in numbers_sooner i j (k + 1) n (omega arith) a.1
 
 -- ---- reads of the book
 pub lesser_or_same : (j k : ℕ) (P : Type 0) → j ≤ k → (j ≡ k → P) → (j < k) ⊎ ((j ≡ k) × P)
@@ -132,5 +117,5 @@ module _ (b : Book) (before g : ℕ) (rest : ℕ → ℕ) where
         let after = ap (λ j. first_read b before g n j rest cost) next ∙ read_first n (k + 1) in
         (λ i. pick (eqb (tempo_first k (length b.tempi) 0 i) 0) (after i) (read k (tempo_first k (length b.tempi) 0 i - 1)))
         ∙ kind_either k (first meets here) (first meets later) (read 0 0)
-        (λ r e. let m = map_from (read k) r (range_with_len 0 (length b.tempi)) (first_among meets r here e) in ap (λ x. x.kind) m.2)
+        (λ r e. let m = map_from (read k) r (range_with_len 0 (length b.tempi)) (first_from meets r here e).0 in ap (λ x. x.kind) m.2)
         ∙ ap (λ o. unwrap_or o (read 0 0)) (sym (first_append meets here later))

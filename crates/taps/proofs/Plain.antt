@@ -11,7 +11,8 @@ use Rattle.least.proofs.Trying.{suffix_tried, told_tried}
 use Rattle.taps.specs.Readings.{Book, Read, costs, all_cost, in_book, too_much, least, first_read, reading}
 use Rattle.std.specs.List.{range_with_len}
 use Rattle.taps.specs.Plain.{read, all_reads, plain, Plain, Finite, Tried}
-use Rattle.taps.proofs.Gap.{numbers_have, In, reads_in, reads_all, with, meets, kinds_least, read_first}
+use Rattle.least.proofs.Lists.{numbers_have}
+use Rattle.taps.proofs.Gap.{In, reads_in, reads_all, with, meets, kinds_least, read_first}
 
 module _ (b : Book) where
   in_parts : (r : Read) (rs : List Read) → in_book b (r ∷ rs) ≡ true → In b r × (in_book b rs ≡ true)
