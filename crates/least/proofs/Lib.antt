@@ -1,6 +1,7 @@
 pub mod Minimal
 pub mod Folds
 pub mod Picked
+pub mod Places
 pub mod Capped
 pub mod Lists
 pub mod Choice

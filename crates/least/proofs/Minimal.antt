@@ -81,6 +81,22 @@ pub plus_least : (x : ℕ) (n : Option ℕ) → Least (λ v. (a : ℕ) × (n ≡
 plus_least x None = λ v h. none-some h.0 h.1
 plus_least x (Some n) = ((n, refl, refl), λ v h. let e : n ≡ h.0 = cc h.1 in omega (arith, h.2))
 
+-- the least of g over Q, if Q is P and one place i more, and g is f and d more on P
+pub least_next : (P Q : ℕ → Type 0) (f g : ℕ → ℕ) (i d r m : ℕ) → Least (λ v. (t : ℕ) × P t × (v ≡ f t)) (Some r) → ((t : ℕ) → P t → g t ≡ f t + d) →
+    ((t : ℕ) → P t → Q t) → Q i → ((t : ℕ) → Q t → (t ≡ i) ⊎ P t) → m ≡ min (g i) (r + d) → Least (λ v. (t : ℕ) × Q t × (v ≡ g t)) (Some m)
+least_next P Q f g i d r m old more wider own fewer is =
+    let t = old.0.0 in (
+      elim (cases_lt (g i) (r + d)) [
+        | inl l ↦ (i, own, omega arith)
+        | inr l ↦ (t, wider t old.0.1, omega (arith, old.0.2, more t old.0.1))
+      ],
+      λ v h.
+          elim (fewer h.0 h.1) [
+            | inl e ↦ omega (arith, ap g e, h.2)
+            | inr p ↦ omega (arith, old.1 (f h.0) (h.0, p, refl), more h.0 p, h.2)
+          ],
+    )
+
 -- ---- the least of a list
 lower_left : (m n : Option ℕ) → NoMore (lower m n) m
 lower_left None n = tt

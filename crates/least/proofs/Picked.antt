@@ -38,7 +38,7 @@ module _ {A F : Type 0} (v : A → ℕ × ℕ) (g : Mut F (Bor A × Unit {0}) �
       kept xs h.0 q c.0 (t.4 ∙ r.0 ∙ sym (ap (λ w. (v w).1) t.5)) h.2 ∙ ap (λ w. best_of less w (map v xs)) (ap v t.5 ∙ r.1)
 
 -- and the first best of a row's numbers with their places stands at the first place of the least
-first_best : (xs : List ℕ) (a : ℕ × ℕ) (rest : List (ℕ × ℕ)) → a ∷ rest ≡ enumerate_from 0 xs → FirstBelow xs (length xs) (best_of less a rest).0
+first_best : (xs : List ℕ) (a : ℕ × ℕ) (rest : List (ℕ × ℕ)) → a ∷ rest ≡ enumerate_from 0 xs → FirstBelow (λ k. get_or xs k 0) (length xs) (best_of less a rest).0
 first_best xs a rest e =
     let b = IsFirstBest-from_best_of (IsStrictWeakOrder-by_number (λ p. p.1)) a rest in
     let i : ℕ = b.0 in
@@ -47,7 +47,7 @@ first_best xs a rest e =
     let inside : i < length xs = omega (arith, b.1.0, long) in
     let place : (best_of less a rest).0 ≡ i = omega (arith, ap (λ p. p.0) (sym b.2 ∙ get_or_default (a ∷ rest) i a (0, 0) b.1.0 ∙ at i inside)) in
     let number : (k : ℕ) → k < length xs → (get_or (a ∷ rest) k (0, 0)).1 ≡ get_or xs k 0 = λ k l. ap (λ p. p.1) (at k l) in
-    subst (FirstBelow xs (length xs)) (sym place) (
+    subst (FirstBelow (λ k. get_or xs k 0) (length xs)) (sym place) (
       inside,
       λ j l. omega (arith, ltb-false _ _ (b.1.1 j (0, 0) (omega (arith, l, long))), number i inside, number j l),
       λ j l. omega (arith, ltb-true _ _ (b.1.2 j (0, 0) l), number i inside, number j (omega (arith, l, inside))),

@@ -90,11 +90,11 @@ At xs i v = v ≡ slice_index xs i
 abbrev pub Entry : List ℕ → ℕ → Type 0
 Entry xs = Below (At xs) (length xs)
 
--- i is the first place of the least of a list's first n numbers
-abbrev pub FirstBelow : List ℕ → ℕ → ℕ → Type 0
-FirstBelow xs n i = (i < n) × ((j : ℕ) → j < n → slice_index xs i ≤ slice_index xs j) × ((j : ℕ) → j < i → slice_index xs i < slice_index xs j)
+-- below n, i is the first place at which f is the least
+abbrev pub FirstBelow : (ℕ → ℕ) → ℕ → ℕ → Type 0
+FirstBelow f n i = (i < n) × ((j : ℕ) → j < n → f i ≤ f j) × ((j : ℕ) → j < i → f i < f j)
 
--- and of all its numbers; there is none where the list is empty
+-- the first place of the least number of a list; there is none where the list is empty
 abbrev pub FirstLeast : List ℕ → Option ℕ → Type 0
 FirstLeast xs None = length xs ≡ 0
-FirstLeast xs (Some i) = FirstBelow xs (length xs) i
+FirstLeast xs (Some i) = FirstBelow (slice_index xs) (length xs) i
