@@ -6,22 +6,22 @@ use Rattle.std.proofs.lemmas.Bool.{cases_lt, cases_eq}
 use Rattle.std.proofs.lemmas.List.{get_or-set_same, get_or-set_other}
 use Rattle.taps.specs.Readings.{apart}
 use Rattle.shift.specs.Shift.{reached, Shifted, UpTo, FromOn, Risen, Fallen}
-use Rattle.shift.proofs.Turns.{rising_le, Between, LeastFrom, alone, stay, turn}
+use Rattle.shift.proofs.Turns.{rising_le, OnTheWay, LeastReached, alone, stay, turn}
 
 module _ (c : ℕ) (ts old : List ℕ) where
   -- each place that is done has the least of those that it may be reached from, and each that is left what it had
   abbrev pub Passed : (ℕ → ℕ → Type 0) → (ℕ → Type 0) → (ℕ → Type 0) → List ℕ → Type 0
   Passed From Done Rest row =
-      (k : ℕ) → k < length old → (Done k → LeastFrom c ts old k (From k) (get_or row k 0)) × (Rest k → get_or row k 0 ≡ get_or old k 0)
+      (k : ℕ) → k < length old → (Done k → LeastReached c ts old k (From k) (get_or row k 0)) × (Rest k → get_or row k 0 ≡ get_or old k 0)
 
   -- one turn, at the place i, which is reached from j besides
   passed_more : (From : ℕ → ℕ → Type 0) (Done Rest More Fewer : ℕ → Type 0) (row : List ℕ) (i j d m : ℕ) → Passed From Done Rest row → length row ≡ length old →
       i < length old → Rest i → j < length old → Done j →
-      ((t : ℕ) → From j t → Between (get_or ts i 0) (get_or ts j 0) (get_or ts t 0) × From i t) → From i i → ((t : ℕ) → From i t → (t ≡ i) ⊎ From j t) →
+      ((t : ℕ) → From j t → OnTheWay (get_or ts i 0) (get_or ts j 0) (get_or ts t 0) × From i t) → From i i → ((t : ℕ) → From i t → (t ≡ i) ⊎ From j t) →
       ((k : ℕ) → More k → (k ≡ i) ⊎ Done k) → ((k : ℕ) → Fewer k → (k ≢ i) × Rest k) →
       apart (get_or ts i 0) (get_or ts j 0) ≡ d → m ≡ min (get_or row i 0) (get_or row j 0 + c * d) → Passed From More Fewer (set row i m)
   passed_more From Done Rest More Fewer row i j d m old-done size hi rest hj done beyond own fewer more left step is k h =
-      let at-i : LeastFrom c ts old i (From i) m =
+      let at-i : LeastReached c ts old i (From i) m =
       turn c ts old i j (From j) (From i) (get_or row j 0) m ((old-done j hj).0 done) (λ t p. (beyond t p).0) (λ t p. (beyond t p).1) own fewer
       (omega (arith, is, (old-done i hi).1 rest, ap (λ n. c * n) step)) in
       let inside : i < length row = omega arith in (
@@ -99,12 +99,12 @@ module _ (c : ℕ) (ts old : List ℕ) where
 
     pub two_passes : Shifted c ts old new
     two_passes s h =
-        let up-to = (fallen s h).0 in
-        let u : ℕ = up-to.0 in
-        let from = (risen u (omega (arith, up-to.1.1))).0 in
-        let t : ℕ = from.0 in
-        let ht : t < length old = omega (arith, from.1, up-to.1.1) in
+        let above = (fallen s h).0 in
+        let u : ℕ = above.0 in
+        let below = (risen u (omega (arith, above.1.1))).0 in
+        let t : ℕ = below.0 in
+        let ht : t < length old = omega (arith, below.1, above.1.1) in
         let hs : s < length old = omega arith in (
-          (t, ht, omega (arith, bound s t hs ht, up-to.2, from.2, no_nearer (get_or ts s 0) (get_or ts t 0) (get_or ts u 0))),
+          (t, ht, omega (arith, bound s t hs ht, above.2, below.2, no_nearer (get_or ts s 0) (get_or ts t 0) (get_or ts u 0))),
           λ v p. omega (arith, bound s p.0 hs p.1, p.2),
         )

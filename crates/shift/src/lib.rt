@@ -4,7 +4,7 @@
 // the entry at t and what the change between the two tempi costs: by one pass up and one pass down, which is two steps
 // for each tempo, where trying every t for every s is one for each pair. (In the field's words: the distance transform
 // of the row, under a distance that is linear in ms.) A change costs the same up and down, so the row may be of what
-// follows its tempi or of what led to them. `source` finds for one tempo the first t that its least comes from.
+// follows its tempi or of what led to them. `first_source` finds for one tempo the first t that its least comes from.
 // `specs/Shift.antt` has what they answer. Read `shift` first.
 #![tactic(auto)]
 
@@ -41,7 +41,7 @@ pub fn shift_at(tempi: &[u16], change: u32, words: &mut [u64], from: usize)
 }
 
 // The first place that the least at the place `at` comes from, of a row that is not shifted yet.
-pub fn source(tempi: &[u16], change: u32, row: &[u64], at: usize) -> usize
+pub fn first_source(tempi: &[u16], change: u32, row: &[u64], at: usize) -> usize
     requires size { length row.now ≡ length tempi.now }
     requires place { at < length row.now }
     requires small { All (λ v. v < 2 ^ 63) row.now }

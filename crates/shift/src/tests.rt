@@ -1,7 +1,7 @@
 // What two passes find, beside what trying every tempo for every tempo finds; and rows worked by hand.
 ghost use Rattle.std.specs.Prelude.{◌^◌, ◌<◌, All};
 
-use crate::{shift, shift_at, source};
+use crate::{first_source, shift, shift_at};
 
 const TEMPI: [u16; 4] = [400, 500, 600, 750];
 
@@ -29,7 +29,7 @@ fn agrees(change: u32, row: [u64; 4]) -> bool
     let mut new = row;
     shift(&TEMPI, change, &mut new);
     for at in 0..4 {
-        if (new[at], source(&TEMPI, change, &row, at)) != tried(change, &row, at) {
+        if (new[at], first_source(&TEMPI, change, &row, at)) != tried(change, &row, at) {
             return false;
         }
     }
@@ -57,7 +57,7 @@ fn a_row_in_the_middle_of_words(rt: HostRuntime) {
 
 #[test]
 fn the_first_of_equal_sources(rt: HostRuntime) {
-    assert!(rt; source(&TEMPI, 20, &[5000, 0, 9000, 1], 2) == 1);
-    assert!(rt; source(&TEMPI, 20, &[0, 9000, 0, 9000], 1) == 0);
-    assert!(rt; source(&TEMPI, 0, &[4, 4, 4, 4], 3) == 0);
+    assert!(rt; first_source(&TEMPI, 20, &[5000, 0, 9000, 1], 2) == 1);
+    assert!(rt; first_source(&TEMPI, 20, &[0, 9000, 0, 9000], 1) == 0);
+    assert!(rt; first_source(&TEMPI, 0, &[4, 4, 4, 4], 3) == 0);
 }

@@ -1,7 +1,7 @@
 use Rattle.std.proofs.Common.{rules, ◌-◌, length, arith}
 use Rattle.shift.specs.Shift.{FromOn}
 use Rattle.shift.proofs.Passes.{fall_start, fall_more}
-use Rattle.shift.proofs.Turns.{no_more}
+use Rattle.shift.proofs.Turns.{at_most_own}
 use Rattle.shift.proofs.fall.Goals as goal
 
 pub loop-s-init : goal.loop-s-init
@@ -15,7 +15,7 @@ overflow_add-row c =
       arith,
       c.step.ensures.small,
       c.requires.small j 0 (omega arith),
-      no_more c.args.change c.args.tempi.now old j (FromOn (length old) j) _ (omega arith, omega arith) ((c.loop-s.invariant j (omega arith)).0 (omega arith)),
+      at_most_own c.args.change c.args.tempi.now old j (FromOn (length old) j) _ (omega arith, omega arith) ((c.loop-s.invariant j (omega arith)).0 (omega arith)),
     )
 
 pub loop-s-preserved : goal.loop-s-preserved

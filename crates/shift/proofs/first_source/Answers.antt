@@ -1,8 +1,8 @@
 use Rattle.std.proofs.Common.{◌≡◌, ◌^◌, ◌-◌, length, inl, refl, arith}
 use Rattle.least.proofs.Places.{so_far_lower, so_far_kept, so_far_all}
 use Rattle.shift.specs.Shift.{reached}
-use Rattle.shift.proofs.source.Goals as goal
-use Rattle.shift.proofs.source.Goals.{then-cost-least, else-cost-least}
+use Rattle.shift.proofs.first_source.Goals as goal
+use Rattle.shift.proofs.first_source.Goals.{then-cost-least, else-cost-least}
 
 pub loop-t-init : goal.loop-t-init
 loop-t-init c = inl (refl, refl)
