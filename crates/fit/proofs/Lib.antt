@@ -2,4 +2,4 @@ mod Left
 mod Priced
 mod Row
 mod Meeting
-mod Sound
+pub mod Sound

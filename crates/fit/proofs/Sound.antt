@@ -62,10 +62,13 @@ filter_all p k (suc n) all =
     cond-true (p k) (k ∷ filter p (range_with_len (k + 1) n)) (filter p (range_with_len (k + 1) n)) (all k (omega arith))
     ∙ ap (λ ks. k ∷ ks) (filter_all p (k + 1) n (λ i h. all i (omega arith)))
 
+pub allowed_all : (b : Book) (set : ℕ) → ((k : ℕ) → k < length b.kinds → member set k ≡ true) → allowed b set ≡ range_with_len 0 (length b.kinds)
+allowed_all b set all = filter_all (member set) 0 (length b.kinds) (λ k h. all k (omega arith))
+
 pub takes : Takes
 unfolding Takes
 takes b set before gap rest cost all =
-    let every : allowed b set ≡ range_with_len 0 (length b.kinds) = filter_all (member set) 0 (length b.kinds) (λ k h. all k (omega arith)) in
+    let every : allowed b set ≡ range_with_len 0 (length b.kinds) = allowed_all b set all in
     read_first b before gap (λ t. get_or rest (t - 1) 0) cost (length b.kinds) 0
     ∙ ap (λ o. unwrap_or o (read 0 0))
     (first_same _ (meets b before gap rest cost)

@@ -1,8 +1,8 @@
 -- Costs as numbers below a cap that stands for none: a loop over such numbers finds the least, and tells the same members apart. Assumes nothing.
-use Rattle.std.proofs.Common.{◌≡◌, ℕ, ◌+◌, ◌<◌, ◌≤◌, min, eqb, ◌⊎◌, List, Some, None, Option, refl, ap, ◌∙◌, inl, inr, arith}
+use Rattle.std.proofs.Common.{◌≡◌, ℕ, ◌+◌, ◌<◌, ◌≤◌, min, eqb, ◌⊎◌, List, [], ◌∷◌, Some, None, Option, refl, ap, ◌∙◌, inl, inr, arith}
 use Rattle.std.proofs.lemmas.Bool.{cases_lt}
 use Rattle.std.proofs.lemmas.Bool.Decides.{nat_tests}
-use Rattle.least.specs.Minima.{NoMore, lower, plus, capped, hits, over, Among}
+use Rattle.least.specs.Minima.{Least, NoMore, lower, plus, both, capped, hits, over, Among}
 use Rattle.least.proofs.Minimal.{Within, plus_some, over_under, over_found}
 use Rattle.least.proofs.Folds.{LeastFrom}
 
@@ -14,8 +14,41 @@ pub capped_lower : (most v : ℕ) (m : Option ℕ) → capped most (lower (Some 
 capped_lower most v None = refl
 capped_lower most v (Some n) = omega arith
 
+capped_lowers : (most : ℕ) (m n : Option ℕ) → capped most (lower m n) ≡ min (capped most m) (capped most n)
+capped_lowers most None n = let below = capped_below most n in omega arith
+capped_lowers most (Some m) None = omega arith
+capped_lowers most (Some m) (Some n) = omega arith
+
+-- members that cost the same under the cap have the same least under it
+pub capped_over : {A : Type 0} (most : ℕ) (f h : A → Option ℕ) (xs : List A) → ((x : A) → Among x xs → capped most (f x) ≡ capped most (h x)) → capped most (over f xs) ≡ capped most (over h xs)
+capped_over most f h [] same = refl
+capped_over most f h (x ∷ xs) same =
+    let here = same x (inl refl) in
+    let rest = capped_over most f h xs (λ y a. same y (inr a)) in
+    omega (arith, capped_lowers most (f x) (over f xs), capped_lowers most (h x) (over h xs))
+
+-- what is added to a capped cost, and two capped costs together, are under the cap what the costs themselves are
+pub capped_again : (most w : ℕ) (n : Option ℕ) → capped most (Some (w + capped most n)) ≡ capped most (plus w n)
+capped_again most w None = omega arith
+capped_again most w (Some n) = omega arith
+
+pub capped_both : (most : ℕ) (m n : Option ℕ) → capped most (Some (capped most m + capped most n)) ≡ capped most (both m n)
+capped_both most None n = omega arith
+capped_both most (Some m) None = omega arith
+capped_both most (Some m) (Some n) = omega arith
+
 pub capped_within : (most : ℕ) (m : Option ℕ) (v : ℕ) → Within m v → capped most m ≤ v
 capped_within most m v w = rw w.1 (omega (arith, w.2))
+
+-- the least cost is, under the cap, what a loop finds that starts with the cap
+pub capped_least : (most : ℕ) (P : ℕ → Type 0) (m : Option ℕ) → Least P m → LeastFrom P most (capped most m)
+capped_least most P None l = record { below = omega arith; under = λ v p. absurd (l v p); found = inl refl }
+capped_least most P (Some m) l =
+    record {
+      below = omega arith;
+      under = λ v p. omega (arith, l.1 v p);
+      found = elim (cases_lt m most) [ inl h ↦ let same : m ≡ min m most = omega arith in inr (rw same at l.0) | inr h ↦ inl (omega arith) ];
+    }
 
 -- below the cap the cost is there
 pub capped_some : (most : ℕ) (m : Option ℕ) → capped most m < most → m ≡ Some (capped most m)

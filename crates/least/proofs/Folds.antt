@@ -44,7 +44,7 @@ below_last : (C : ℕ → ℕ → Type 0) (n v : ℕ) → C n v → Below C (suc
 below_last C n v h = (n, omega arith, h)
 
 -- a loop over no candidates
-below_none : (C : ℕ → ℕ → Type 0) (a : ℕ) → LeastFrom (Below C 0) a a
+pub below_none : (C : ℕ → ℕ → Type 0) (a : ℕ) → LeastFrom (Below C 0) a a
 below_none C a = record { below = omega arith; under = λ v h. omega (arith, h.1); found = inl refl }
 
 -- a fold from the last on, whose step is least in its turn: folds nest
@@ -56,9 +56,25 @@ module _ (C : ℕ → ℕ → Type 0) (step fold : ℕ → ℕ → ℕ) (none : 
       (from_then (C n) (Below C n) (Below C (suc n)) a (step n a) (fold n (step n a)) (each n a) (from_fold n (step n a))
       (λ v h. elim (below_either C n v h) [ inl x ↦ inr x | inr x ↦ inl x ]) (below_last C n) (below_less C n))
 
+-- one candidate more
+pub from_next : (C : ℕ → ℕ → Type 0) (n a m o : ℕ) → LeastFrom (Below C n) a m → LeastFrom (C n) m o → LeastFrom (Below C (suc n)) a o
+from_next C n a m o p q = from_then (Below C n) (C n) (Below C (suc n)) a m o p q (below_either C n) (below_less C n) (below_last C n)
+
+-- v is no lower than a, or than some candidate of P
+abbrev pub Near : (ℕ → Type 0) → ℕ → ℕ → Type 0
+Near P a v = (a ≤ v) ⊎ ((u : ℕ) × P u × (u ≤ v))
+
+from_lower : (P Q : ℕ → Type 0) (a m n : ℕ) → LeastFrom P a m → LeastFrom Q a n → ((v : ℕ) → Q v → Near P a v) → m ≤ n
+from_lower P Q a m n p q near =
+    elim q.found [
+      | inl e ↦ omega (arith, p.below)
+      | inr x ↦ elim (near n x) [ inl h ↦ omega (arith, p.below) | inr h ↦ omega (arith, p.under h.0 h.1, h.2) ]
+    ]
+
+-- where each candidate of the one is no lower than one of the other, or than what the loops start with, both find the same
+pub from_near : (P Q : ℕ → Type 0) (a m n : ℕ) → LeastFrom P a m → LeastFrom Q a n → ((v : ℕ) → P v → Near Q a v) → ((v : ℕ) → Q v → Near P a v) → m ≡ n
+from_near P Q a m n p q to back = let up = from_lower P Q a m n p q back in let down = from_lower Q P a n m q p to in omega arith
+
 -- there is one least, in whichever order the candidates are taken
 pub from_same : (P Q : ℕ → Type 0) (a m n : ℕ) → LeastFrom P a m → LeastFrom Q a n → ((v : ℕ) → P v → Q v) → ((v : ℕ) → Q v → P v) → m ≡ n
-from_same P Q a m n p q to back =
-    let up : m ≤ n = elim q.found [ inl e ↦ omega (arith, p.below) | inr x ↦ p.under n (back n x) ] in
-    let down : n ≤ m = elim p.found [ inl e ↦ omega (arith, q.below) | inr x ↦ q.under m (to m x) ] in
-    omega arith
+from_same P Q a m n p q to back = from_near P Q a m n p q (λ v x. inr (v, to v x, omega arith)) (λ v x. inr (v, back v x, omega arith))

@@ -8,8 +8,7 @@
 // `specs/Shift.antt` has what they answer. Read `shift` first.
 #![tactic(auto)]
 
-ghost use Rattle.std.specs.Prelude.{◌≡◌, ◌+◌, ◌-◌, ◌*◌, ◌^◌, ℕ, ◌<◌, ◌≤◌, length, take, drop, All, slice_index};
-ghost use Rattle.std.specs.List.{between};
+ghost use Rattle.std.specs.Prelude.{◌≡◌, ◌-◌, ◌*◌, ◌^◌, ℕ, ◌<◌, ◌≤◌, length, All, slice_index};
 ghost use Rattle.std.specs.List.Sorted.{IsStrictlyIncreasing};
 ghost use Rattle.least.specs.Minima.{FirstBelow};
 ghost use Rattle.shift.specs.Shift.{Fallen, Risen, Shifted, reached};
@@ -25,19 +24,6 @@ pub fn shift(tempi: &[u16], change: u32, row: &mut [u64])
 {
     rise(tempi, change, row);
     fall(tempi, change, row);
-}
-
-// The same for a row that begins at the word `from`; the words around it stay.
-pub fn shift_at(tempi: &[u16], change: u32, words: &mut [u64], from: usize)
-    requires room { from + length tempi.now ≤ length words.old }
-    requires rising { IsStrictlyIncreasing tempi.now }
-    requires small { All (λ v. v < 2 ^ 63) (between from (from + length tempi.now) words.old) }
-    ensures least { Shifted change tempi.now (between from (from + length tempi.now) words.old) (between from (from + length tempi.now) words.new) }
-    ensures kept { (s : ℕ) → s < length tempi.now → slice_index (between from (from + length tempi.now) words.new) s ≤ slice_index (between from (from + length tempi.now) words.old) s }
-    ensures before { take from words.new ≡ take from words.old }
-    ensures after { drop (from + length tempi.now) words.new ≡ drop (from + length tempi.now) words.old }
-{
-    shift(tempi, change, &mut words[from..from + tempi.len()]);
 }
 
 // The first place that the least at the place `at` comes from, of a row that is not shifted yet.

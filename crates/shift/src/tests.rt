@@ -1,7 +1,7 @@
 // What two passes find, beside what trying every tempo for every tempo finds; and rows worked by hand.
 ghost use Rattle.std.specs.Prelude.{◌^◌, ◌<◌, All};
 
-use crate::{first_source, shift, shift_at};
+use crate::{first_source, shift};
 
 const TEMPI: [u16; 4] = [400, 500, 600, 750];
 
@@ -51,7 +51,7 @@ fn two_passes_find_what_trying_finds(rt: HostRuntime) {
 #[test]
 fn a_row_in_the_middle_of_words(rt: HostRuntime) {
     let mut words = [7, 7, 5000, 0, 9000, 1, 7];
-    shift_at(&TEMPI, 20, &mut words, 2);
+    shift(&TEMPI, 20, &mut words[2..6]);
     assert!(rt; words == [7, 7, 2000, 0, 2000, 1, 7]);
 }
 

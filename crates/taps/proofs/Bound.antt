@@ -31,13 +31,13 @@ tempo_good (t ∷ (u ∷ us)) zero h =
 tempo_good (t ∷ (u ∷ us)) (suc i) h = tempo_good (u ∷ us) i (and_parts (leb 100 t && ltb t u) (good_tempi (u ∷ us)) h).1
 
 -- 2^29: more than a gap costs
-abbrev per : ℕ
+abbrev pub per : ℕ
 per = 536870912
 
 bound : (x y w v : ℕ) → x < 16777216 → y ≤ 384000 → w < 16777216 → v ≤ 262140000 → (apart (12 * x) y + w) + v ≤ per
 bound x y w v p q r s = omega arith
 
-costs_little : (b : Book) (before g : ℕ) (r : Read) → GoodBook b → g < 16777216 → costs b before g r ≤ per
+pub costs_little : (b : Book) (before g : ℕ) (r : Read) → GoodBook b → g < 16777216 → costs b before g r ≤ per
 costs_little b before g r good short =
     let k = kind_good b.kinds r.kind good.2 in
     let t = tempo_good b.tempi r.tempo good.5 in

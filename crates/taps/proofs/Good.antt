@@ -1,9 +1,10 @@
 -- Good tempi as `is_sorted_by` and `all` test them; and that what a book of the code stands for is a good book.
 use Rattle.std.proofs.Common.{◌≡◌, ℕ, zero, suc, ◌+◌, Bool, true, false, ◌&&◌, ltb, leb, List, [], ◌∷◌, map, length, get_or, refl, ap, ◌∙◌, arith}
 use Rattle.std.proofs.lemmas.List.{length-map, length-take-le}
-use Rattle.std.proofs.lemmas.Bool.{and_from, le-leb, lt-ltb}
+use Rattle.std.proofs.lemmas.Bool.{and_from, and_parts, le-leb, lt-ltb}
 use Rattle.std.proofs.lemmas.Bool.Decides.{nat_tests}
 use Rattle.std.specs.List.{IsAllAdjacentAnswer, list_all}
+use Rattle.std.specs.List.Sorted.{IsStrictlyIncreasing}
 use Rattle.taps.specs.Promise.{good_kinds, good_tempi, GoodBook}
 use Rattle.taps.specs.Items.{items}
 use Rattle.taps.specs.Values.{kind_of, kinds_of, tempi_of, book_of}
@@ -29,6 +30,15 @@ good_is_sorted (t ∷ (u ∷ us)) false (zero, below, by) = let first = by 0 in 
 good_is_sorted (t ∷ (u ∷ us)) false (suc k, below, by) =
     let rest = good_is_sorted (u ∷ us) false (k, omega (arith, below), λ d. by d ∙ next_pair t (u ∷ us) k d) in
     grind (arith, nat_tests)
+
+pub good_tempi_rise : (ts : List ℕ) → good_tempi ts ≡ true → IsStrictlyIncreasing ts
+unfolding good_tempi
+good_tempi_rise [] h k below = absurd (omega arith)
+good_tempi_rise (t ∷ []) h k below = absurd (omega arith)
+good_tempi_rise (t ∷ (u ∷ us)) h zero below = grind (arith, nat_tests)
+good_tempi_rise (t ∷ (u ∷ us)) h (suc k) below =
+    let next : suc k + 1 ≡ suc (k + 1) = omega arith in
+    rw next (good_tempi_rise (u ∷ us) (and_parts (leb 100 t && ltb t u) (good_tempi (u ∷ us)) h).1 k (omega arith))
 
 -- a kind's bounds are in its type, so any list of them is good
 pub good_each : (ks : List Kind) → good_kinds (map kind_of ks) ≡ true

@@ -1,0 +1,5 @@
+pub mod Numbers
+mod Steps
+mod Bounds
+mod Tables
+mod Least

@@ -1,0 +1,2 @@
+pub mod Rows
+pub mod Laws

@@ -1,0 +1,42 @@
+-- Rows of costs as numbers, and one step from a row to the row beside it. Assumes nothing: these are definitions.
+--
+-- A model is a general reader (`least/specs/Readers.antt`) whose states are the numbers below some n. A row has a number for each state: a cost, or `too_much`, which no cost
+-- is above either, where there is none.
+-- suffix_row: for each state what some steps cost from it on. prefix_row: for each state what they cost that end in it.
+-- suffix_rows: the suffix rows of all steps, of all but the first, and so on; last the row after all of them.
+-- backward, forward: the row before a step by the row after it, and the row after it by the row before it. starting: the least of all by the row before the first step.
+use Rattle.std.specs.Prelude.{ℕ, List, [], ◌∷◌, ◌++◌, map, Some, Option, slice_index}
+use Rattle.std.specs.List.{range_with_len}
+use Rattle.least.specs.Minima.{capped, plus, over}
+use Rattle.least.specs.Readers.{Reader, States, suffix, prefix, onward}
+use Rattle.taps.specs.Readings.{too_much}
+
+abbrev pub states_below : ℕ → List ℕ
+states_below n = range_with_len 0 n
+
+-- the numbers of some costs, one for each state
+abbrev pub row_of : ℕ → (ℕ → Option ℕ) → List ℕ
+row_of n costs = map (λ s. capped too_much (costs s)) (states_below n)
+
+-- the costs that a row's numbers are
+abbrev pub costs_in : List ℕ → ℕ → Option ℕ
+costs_in row s = Some (slice_index row s)
+
+abbrev pub suffix_row : {G C : Type 0} → Reader G ℕ C → ℕ → List G → List ℕ
+suffix_row r n gs = row_of n (λ s. suffix r s gs)
+
+unfoldable pub suffix_rows : {G C : Type 0} → Reader G ℕ C → ℕ → List G → List ℕ
+suffix_rows r n [] = suffix_row r n []
+suffix_rows r n (g ∷ gs) = suffix_row r n (g ∷ gs) ++ suffix_rows r n gs
+
+abbrev pub backward : {G C : Type 0} → Reader G ℕ C → ℕ → G → List ℕ → List ℕ
+backward r n g after = row_of n (λ s. over (λ c. plus (r.cost s g c) (costs_in after (r.next s g c))) (r.choices s g))
+
+abbrev pub starting : {G C : Type 0} → Reader G ℕ C → List ℕ → ℕ
+starting r row = capped too_much (over (λ s. plus (r.entry s) (costs_in row s)) r.starts)
+
+abbrev pub prefix_row : {G C : Type 0} (r : Reader G ℕ C) → States r → ℕ → List G → List ℕ
+prefix_row r st n gs = row_of n (prefix r st gs)
+
+abbrev pub forward : {G C : Type 0} (r : Reader G ℕ C) → States r → ℕ → G → List ℕ → List ℕ
+forward r st n g before = row_of n (onward r st (costs_in before) g)

@@ -1,0 +1,46 @@
+-- Where each gap may be read as any kind, readings are those of the definitions. Assumes nothing.
+use Rattle.std.proofs.Common.{◌≡◌, ℕ, suc, ◌<◌, ◌≤◌, true, List, [], ◌∷◌, ◌++◌, map, length, Some, None, Option, sym, refl, ap, ◌∙◌, arith}
+use Rattle.std.proofs.lemmas.List.Elements.{All-head, All-tail}
+use Rattle.bitset.specs.Members.{member}
+use Rattle.least.specs.Minima.{capped, plus, lower, over}
+use Rattle.least.specs.Readers.{suffix}
+use Rattle.least.specs.Readers as readers
+use Rattle.taps.specs.Readings.{Book, costs, too_much, least}
+use Rattle.taps.specs.Plain.{reads_of, all_reads, plain}
+use Rattle.taps.proofs.Plain.{same_least}
+use Rattle.fit.proofs.Sound.{allowed_all}
+use Rattle.model.specs.Rows.{states_below, suffix_row, suffix_rows}
+use Rattle.model.specs.declared.Step.{Step}
+use Rattle.plain.specs.Restricted.{restricted, state_count, gaps_of, Free}
+use Rattle.plain.specs.Rows.{row, rows}
+
+module _ (b : Book) (few : length b.kinds ≤ 32) where
+  free_suffix : (gs : List Step) → Free gs → (s : ℕ) → suffix (restricted b) s gs ≡ suffix (plain b) s (gaps_of gs)
+  unfolding suffix
+  free_suffix [] free s = refl
+  free_suffix (g ∷ gs) free s =
+      let any = All-head (λ h. (k : ℕ) → k < 32 → member h.kinds.bits k ≡ true) g gs free in
+      let rest = free_suffix gs (All-tail (λ h. (k : ℕ) → k < 32 → member h.kinds.bits k ≡ true) g gs free) in
+      ap (λ ks. over (λ r. plus (costs b s g.gap r) (suffix (restricted b) (suc r.tempo) gs)) (reads_of b ks)) (allowed_all b g.kinds.bits (λ k h. any k (omega arith)))
+      ∙ (λ i. over (λ r. plus (costs b s g.gap r) (rest (suc r.tempo) i)) (all_reads b))
+
+  free_cost : (gs : List Step) → Free gs → (s : ℕ) → capped too_much (suffix (restricted b) s gs) ≡ least b s (gaps_of gs)
+  free_cost gs free s = ap (capped too_much) (free_suffix gs free s) ∙ sym (same_least b s (gaps_of gs))
+
+  free_row : (gs : List Step) → Free gs → suffix_row (restricted b) (state_count b) gs ≡ row b (gaps_of gs)
+  free_row gs free = λ i. map (λ s. free_cost gs free s i) (states_below (state_count b))
+
+  pub free_rows : (gs : List Step) → Free gs → suffix_rows (restricted b) (state_count b) gs ≡ rows b (gaps_of gs)
+  unfolding suffix_rows rows
+  free_rows [] free = free_row [] free
+  free_rows (g ∷ gs) free =
+      let rest = free_rows gs (All-tail (λ h. (k : ℕ) → k < 32 → member h.kinds.bits k ≡ true) g gs free) in
+      λ i. free_row (g ∷ gs) free i ++ rest i
+
+  -- there is one start, which costs nothing
+  one_start : (m : Option ℕ) → lower (plus 0 m) None ≡ m
+  one_start None = refl
+  one_start (Some m) = ap Some (omega arith)
+
+  pub free_least : (gs : List Step) → Free gs → capped too_much (readers.least (restricted b) gs) ≡ least b 0 (gaps_of gs)
+  free_least gs free = ap (capped too_much) (one_start (suffix (restricted b) 0 gs)) ∙ free_cost gs free 0

@@ -1,0 +1,4 @@
+mod Freely
+mod Alone
+mod Backward
+mod Forward

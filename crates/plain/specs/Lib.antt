@@ -1,0 +1,3 @@
+pub mod Restricted
+pub mod Owed
+pub mod Rows

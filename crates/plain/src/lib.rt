@@ -1,0 +1,107 @@
+// The plain book as a model: a state is the tempo before.
+//
+// A gap costs what it costs as one of its kinds at a tempo (`fit`), and what the change from the tempo before costs
+// (`shift`). State 0 is that there is no tempo before; the state after it is the book's first tempo, and so on. A row is
+// made from the row beside it in so many steps as the book has kinds times tempi. `specs/Rows.antt` says what rows have,
+// by the definitions of readings. Read `least_cost` first.
+#![tactic(auto)]
+
+ghost use Rattle.std.specs.Prelude.{◌≡◌, ℕ, ◌+◌, ◌<◌, ◌≤◌, min, All, length, slice_index};
+ghost use Rattle.std.specs.Option.{option_map};
+ghost use Rattle.octets.specs.Bytes.{room, written};
+ghost use Rattle.taps.specs.Readings as readings;
+ghost use Rattle.taps.specs.Readings.{least, too_much};
+ghost use Rattle.taps.specs.Values.{book_of};
+ghost use Rattle.taps.proofs.Good.{book_is_good};
+ghost use Rattle.plain.specs.Owed.{lawful, states};
+ghost use Rattle.plain.specs.Restricted.{Free, fair, gaps_of, restricted, state_count};
+ghost use Rattle.plain.specs.Rows.{rows};
+
+use fit::fill;
+use least::least_of;
+use model::{Step, Trellis};
+use shift::shift;
+use taps::book::Book;
+use taps::read::TOO_MUCH;
+use taps::tempi::MOST_TEMPI;
+
+#[derive(Clone, Copy)]
+pub struct Plain {
+    pub book: Book,
+}
+
+impl Trellis for Plain {
+    ghost Choice = { readings.Read };
+
+    ghost reader = { λ m. restricted (book_of m.book) };
+
+    ghost states = { λ m. states (book_of m.book) };
+
+    ghost count = { λ m. state_count (book_of m.book) };
+
+    // more than a gap costs in any book
+    ghost most = { λ _. 536870912 };
+
+    ghost fair = { λ m. fair (book_of m.book) };
+
+    ghost lawful = { λ m. lawful (book_of m.book) (book_is_good m.book) };
+
+    fn state_count(&self) -> usize {
+        self.book.tempi.list.count + 1
+    }
+
+    fn entry(&self, state: usize) -> u64 {
+        if state == 0 { 0 } else { TOO_MUCH }
+    }
+
+    fn row_before(&self, step: Step, after: &[u64], row: &mut [u64]) {
+        let (start, tempi) = row.split_at_mut(1);
+        fill(&self.book, step.kinds, step.gap, tempi);
+        add(&after[1..], tempi);
+        start[0] = least_of(tempi).unwrap_or(TOO_MUCH);
+        shift(self.book.tempi.list.as_slice(), self.book.change, tempi);
+    }
+
+    fn row_after(&self, step: Step, before: &[u64], row: &mut [u64]) {
+        let (start, tempi) = row.split_at_mut(1);
+        start[0] = TOO_MUCH;
+        tempi.copy_from_slice(&before[1..]);
+        shift(self.book.tempi.list.as_slice(), self.book.change, tempi);
+        lower(before[0], tempi);
+        let mut fits = [0; MOST_TEMPI];
+        let fits = &mut fits[..self.book.tempi.list.count];
+        fill(&self.book, step.kinds, step.gap, fits);
+        add(fits, tempi);
+    }
+}
+
+// Writes at the front of `words` what the gaps from each one on cost after each tempo, and answers what all cost at
+// least; nothing where the rows don't fit.
+pub fn least_cost(book: &Book, steps: &[Step], words: &mut [u64]) -> Option<u64>
+    requires { Free steps.now }
+    ensures value { result ≡ option_map (λ _. least (book_of book.now) 0 (gaps_of steps.now)) (room (rows (book_of book.now) (gaps_of steps.now)) words.old) }
+    ensures after { words.new ≡ written (rows (book_of book.now) (gaps_of steps.now)) words.old }
+{
+    model::least_cost(&Plain { book: *book }, steps, words)
+}
+
+// Adds costs to those of a row, none of which passes `TOO_MUCH`.
+fn add(costs: &[u64], row: &mut [u64])
+    requires sizes { length row.old ≡ length costs.now }
+    requires small { All (λ v. v ≤ too_much) costs.now }
+    requires small_row { All (λ v. v ≤ too_much) row.old }
+    ensures { (t : ℕ) → t < length row.new → slice_index row.new t ≡ min (slice_index row.old t + slice_index costs.now t) too_much }
+{
+    for t in 0..row.len() {
+        row[t] = (row[t] + costs[t]).min(TOO_MUCH);
+    }
+}
+
+// Lowers each cost of a row to `cost`, where that is less.
+fn lower(cost: u64, row: &mut [u64])
+    ensures { (t : ℕ) → t < length row.new → slice_index row.new t ≡ min (slice_index row.old t) cost }
+{
+    for t in 0..row.len() {
+        row[t] = row[t].min(cost);
+    }
+}
