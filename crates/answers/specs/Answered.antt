@@ -1,35 +1,52 @@
 -- What a call is answered over lent words, by the definitions of calls. Assumes nothing.
-use Rattle.std.specs.Prelude.{◌≡◌, ℕ, Bool, true, false, ◌⊎◌, List, length, Some, None, Ok, Err, Option, Result, nat_le}
-use Rattle.taps.specs.Readings.{Book}
+--
+-- b: the book. ts: the taps that the words stand for. space: how many words are lent for the rows of what gaps cost.
+use Rattle.std.specs.Prelude.{◌≡◌, ℕ, Bool, true, false, ◌&&◌, not, List, length, Some, None, Ok, Err, Option, Result, nat_le, nat_lt}
+use Rattle.std.specs.List.{list_all}
+use Rattle.taps.specs.Readings.{pick, Book}
 use Rattle.taps.specs.Calls as calls
-use Rattle.taps.specs.Calls.{answer}
+use Rattle.taps.specs.Calls.{gaps, answer}
 use Rattle.taps.specs.Values.{place_of, call_of, answer_of}
 use Rattle.taps.specs.declared.answer.Answer.{Answer}
 use Rattle.taps.specs.declared.call.Call.{Call}
 use Rattle.taps.specs.declared.refusal.Refusal.{Refusal}
 use Rattle.octets.specs.Bytes.{room, written}
 use Rattle.wire.specs.Wire.{answer_bytes}
+use Rattle.plain.specs.Rows.{rows}
 
 -- the call that was read, or that none was
 abbrev pub heard : Result Call Refusal → calls.Call
 heard (Ok c) = call_of c
 heard (Err e) = calls.garbled (place_of e)
 
--- not answered yet: what asks for the best reading of two taps or more, or its cost
-abbrev pub unanswered : List ℕ → calls.Call → Bool
-unanswered ts (calls.taps t) = false
-unanswered ts calls.back = false
-unanswered ts calls.cost = nat_le 2 (length ts)
-unanswered ts calls.read = nat_le 2 (length ts)
-unanswered ts (calls.garbled p) = false
+-- each gap is below 2^32 ms, as all gaps of a desk are
+abbrev pub short : List ℕ → Bool
+short gs = list_all (λ g. nat_lt g 4294967296) gs
 
--- the answer of the definitions, whatever the book is; or none, where it is not answered yet and only there
-abbrev pub Answered : ℕ → List ℕ → Call → Option Answer → Type 0
-Answered most ts c (Some a) = (unanswered ts (call_of c) ≡ false) × ((b : Book) → answer_of a ≡ answer b most ts (call_of c))
-Answered most ts c None = unanswered ts (call_of c) ≡ true
+-- not answered: what asks for the best reading of two taps or more, as yet; and what it costs, where a gap is longer, or the rows have no room
+abbrev pub unanswered : Book → ℕ → List ℕ → calls.Call → Bool
+unanswered b space ts (calls.taps t) = false
+unanswered b space ts calls.back = false
+unanswered b space ts calls.cost = not (short (gaps ts) && nat_le (length (rows b (gaps ts))) space)
+unanswered b space ts calls.read = nat_le 2 (length ts)
+unanswered b space ts (calls.garbled p) = false
+
+-- the answer of the definitions; or none, where it is not answered and only there
+abbrev pub Answered : Book → ℕ → ℕ → List ℕ → Call → Option Answer → Type 0
+Answered b space most ts c (Some a) = (unanswered b space ts (call_of c) ≡ false) × (answer_of a ≡ answer b most ts (call_of c))
+Answered b space most ts c None = unanswered b space ts (call_of c) ≡ true
+
+-- what the words that are lent for rows hold after a call: where it asks for the cost, the rows of all gaps, if they have room
+abbrev pub rows_after : Book → List ℕ → calls.Call → List ℕ → List ℕ
+rows_after b ts (calls.taps t) old = old
+rows_after b ts calls.back old = old
+rows_after b ts calls.cost old = pick (short (gaps ts)) (written (rows b (gaps ts)) old) old
+rows_after b ts calls.read old = old
+rows_after b ts (calls.garbled p) old = old
 
 -- the same in bytes: what is told of `old`, the lent slice, and what is left in it
-abbrev pub AnsweredBy : ℕ → List ℕ → calls.Call → List ℕ → List ℕ → Option ℕ → Type 0
-AnsweredBy most ts c old new r =
-    ((unanswered ts c ≡ true) × (r ≡ None) × (new ≡ old))
-    ⊎ ((unanswered ts c ≡ false) × ((b : Book) → (r ≡ room (answer_bytes (answer b most ts c)) old) × (new ≡ written (answer_bytes (answer b most ts c)) old)))
+unfoldable pub told_of : Book → ℕ → ℕ → List ℕ → calls.Call → List ℕ → Option ℕ
+told_of b space most ts c old = pick (unanswered b space ts c) None (room (answer_bytes (answer b most ts c)) old)
+
+unfoldable pub left_of : Book → ℕ → ℕ → List ℕ → calls.Call → List ℕ → List ℕ
+left_of b space most ts c old = pick (unanswered b space ts c) old (written (answer_bytes (answer b most ts c)) old)

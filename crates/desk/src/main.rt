@@ -5,28 +5,32 @@
 // and asks by bytes (`ask`), which is proved; and it reads and prints, which is run and compared.
 #![tactic(auto)]
 
-ghost use Rattle.std.specs.Prelude.{◌≡◌, [], IfOk};
-ghost use Rattle.taps.specs.Values.{call_of};
+ghost use Rattle.std.specs.Prelude.{◌≡◌, [], length, IfOk};
+ghost use Rattle.taps.specs.Values.{book_of, call_of};
 ghost use Rattle.onsets.specs.Onsets.{limit_of, taps_in, words_after};
-ghost use Rattle.answers.specs.Answered.{Answered};
+ghost use Rattle.answers.specs.Answered.{Answered, rows_after};
 
 mod line;
 
 use answers::answer_bytes;
 use anyhow::{anyhow, bail};
+use books::book::decode_book;
 use line::{Line, parse_call};
 use onsets::{MOST_WORDS, clear};
+use plain::MOST_ROW_WORDS;
 use std::alloc::{AllocError, Global};
 use std::fs::File;
 use std::io::{BufRead, BufReader};
 use std::process::ExitCode;
-use std::{env, io};
+use std::{env, fs, io};
 use taps::answer::Answer;
+use taps::book::Book;
+use taps::built_in::built_in_book;
 use taps::call::{Call, MOST_TAPS};
 use wire::answer::decode_answer;
 use wire::call::encode_call;
 
-const HELP: &str = "usage: desk [CALLS]
+const HELP: &str = "usage: desk [--book BOOK] [CALLS]
 
 Answers the calls of the file CALLS, or of standard input as they come, a line for each:
 
@@ -43,7 +47,13 @@ A call that is not taken changes nothing and is answered `refused NUMBER at PLAC
   5  there is no tap to take back
   6  there are 256 taps already
 
-The best reading of two taps or more is `not answered yet`.";
+The best reading of two taps or more is `not answered yet`; what it costs is answered.
+
+BOOK is a file with the bytes of a book. With none, gaps are read by the built-in book:
+
+  kinds of 3 ticks, weight 2400; 6, 600; 12, 0; 24, 600; 8, 3000; 4, 3600, twelve ticks to a beat
+  tempi of 400, 500, 600 and 750 ms a beat
+  a change of tempo costs 20 for each ms";
 
 // The most bytes that a call takes.
 const CALL_SIZE: usize = 5;
@@ -62,31 +72,46 @@ fn main(rt: HostRuntime) -> ExitCode {
 fn run(rt: &HostRuntime) -> anyhow::Result<()> {
     let mut args = env::args(rt)?;
     let _ = args.next();
-    let Some(first) = args.next() else {
-        return answer_lines(rt, BufReader::new(rt.alloc(), rt.stdin())?);
-    };
+    let mut book = built_in_book();
+    let mut next = args.next();
+    if next.as_ref().is_some_and(|arg| arg.as_str() == "--book") {
+        let Some(path) = args.next() else {
+            bail!("--book wants a file (desk --help tells more)");
+        };
+        book = read_book(rt, path.as_str())?;
+        next = args.next();
+    }
     if args.next().is_some() {
         bail!("more than one file of calls (desk --help tells more)");
     }
-    match first.as_str() {
+    let Some(calls) = next else {
+        return answer_lines(rt, &book, BufReader::new(rt.alloc(), rt.stdin())?);
+    };
+    match calls.as_str() {
         "--help" | "-h" => Ok(println!(rt; "{HELP}")?),
-        path => answer_file(rt, path),
+        path => answer_file(rt, &book, path),
     }
 }
 
-fn answer_file(rt: &HostRuntime, path: &str) -> anyhow::Result<()> {
+fn read_book(rt: &HostRuntime, path: &str) -> anyhow::Result<Book> {
+    let bytes = fs::read(rt, path).map_err(|error| anyhow!("{path}: {error}"))?;
+    decode_book(bytes.as_slice()).map_err(|_| anyhow!("{path}: its bytes are no book"))
+}
+
+fn answer_file(rt: &HostRuntime, book: &Book, path: &str) -> anyhow::Result<()> {
     if path.starts_with('-') {
         bail!("unknown option {path} (desk --help tells more)");
     }
     let file = File::open(rt, path).map_err(|error| anyhow!("{path}: {error}"))?;
-    answer_lines(rt, BufReader::new(rt.alloc(), file)?)
+    answer_lines(rt, book, BufReader::new(rt.alloc(), file)?)
 }
 
 // Each answer is out before the next line is waited for.
-fn answer_lines<R: BufRead + Drop>(rt: &HostRuntime, input: R) -> anyhow::Result<()> {
+fn answer_lines<R: BufRead + Drop>(rt: &HostRuntime, book: &Book, input: R) -> anyhow::Result<()> {
     let mut words = no_taps(rt.alloc())?;
+    let mut rows = vec![in rt.alloc(); 0; MOST_ROW_WORDS]?;
     for (number, line) in input.split(rt.alloc(), b'\n').enumerate() {
-        answer_line(rt, &mut words, line?.as_slice(), number)?;
+        answer_line(rt, book, &mut words, &mut rows, line?.as_slice(), number)?;
     }
     Ok(())
 }
@@ -101,25 +126,33 @@ fn no_taps(heap: Global) -> Result<Vec<u64>, AllocError>
     Ok(words)
 }
 
-fn answer_line(rt: &HostRuntime, words: &mut [u64], line: &[u8], number: usize) -> io::Result<()> {
+fn answer_line(
+    rt: &HostRuntime,
+    book: &Book,
+    words: &mut [u64],
+    rows: &mut [u64],
+    line: &[u8],
+    number: usize,
+) -> io::Result<()> {
     let Some(call) = parse_call(line) else {
         return println!(rt; "refused 1 at {number}");
     };
-    match ask(words, call) {
+    match ask(book, words, rows, call) {
         Some(answer) => println!(rt; "{}", Line(answer)),
         None => println!(rt; "not answered yet"),
     }
 }
 
-// Sends a call as bytes, and reads the bytes that it is answered by; none where it is not answered yet.
-fn ask(words: &mut [u64], call: Call) -> Option<Answer>
+// Sends a call as bytes, and reads the bytes that it is answered by; none where it is not answered.
+fn ask(book: &Book, words: &mut [u64], rows: &mut [u64], call: Call) -> Option<Answer>
     ensures after { words.new ≡ words_after words.old (call_of call) }
-    ensures value { Answered (limit_of words.old) (taps_in words.old) call result }
+    ensures rows { rows.new ≡ rows_after (book_of book.now) (taps_in words.old) (call_of call) rows.old }
+    ensures value { Answered (book_of book.now) (length rows.old) (limit_of words.old) (taps_in words.old) call result }
 {
     let mut request = [0; CALL_SIZE];
     let mut answer = [0; ANSWER_SIZE];
     let sent = encode_call(call, &mut request)?;
-    let told = answer_bytes(words, &request[..sent], &mut answer)?;
+    let told = answer_bytes(book, words, rows, &request[..sent], &mut answer)?;
     decode_answer(&answer[..told])
 }
 

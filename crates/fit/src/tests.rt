@@ -1,54 +1,12 @@
 // Costs worked by hand, in the book of the README.
-ghost use Rattle.std.specs.Prelude.{◌≡◌, IfSome};
-
 use crate::{fill, first_met};
 use bitset::BitSet;
-use std::test::Fail;
-use taps::book::Book;
-use taps::kind::Kind;
-use taps::kinds::{Kinds, MOST_KINDS};
+use taps::built_in::built_in_book;
 use taps::read::{Read, TOO_MUCH};
-use taps::tempi::{MOST_TEMPI, Tempi};
-
-fn worked() -> Option<Book>
-    ensures { IfSome result (λ b. (b.tempi.list.count ≡ 4) × (b.kinds.list.count ≡ 6)) }
-{
-    let mut kinds = [Kind {
-        ticks: 3,
-        weight: 2400,
-    }; MOST_KINDS];
-    kinds[1] = Kind {
-        ticks: 6,
-        weight: 600,
-    };
-    kinds[2] = Kind {
-        ticks: 12,
-        weight: 0,
-    };
-    kinds[3] = Kind {
-        ticks: 24,
-        weight: 600,
-    };
-    kinds[4] = Kind {
-        ticks: 8,
-        weight: 3000,
-    };
-    kinds[5] = Kind {
-        ticks: 4,
-        weight: 3600,
-    };
-    let mut tempi = [400; MOST_TEMPI];
-    tempi[1] = 500;
-    tempi[2] = 600;
-    tempi[3] = 750;
-    Book::new(Kinds::new(kinds, 6)?, Tempi::new(tempi, 4)?, 20)
-}
 
 #[test]
-fn rows_have_the_least_of_the_kinds_allowed(rt: HostRuntime) -> Result<(), Fail> {
-    let Some(book) = worked() else {
-        return Err(Fail::new("the worked book is refused"));
-    };
+fn rows_have_the_least_of_the_kinds_allowed(rt: HostRuntime) {
+    let book = built_in_book();
     let mut words = [7; 8];
     fill(&book, BitSet::full(), 240, &mut words[2..6]);
     assert!(rt; words == [7, 7, 1080, 720, 1320, 2220, 7, 7]);
@@ -58,14 +16,11 @@ fn rows_have_the_least_of_the_kinds_allowed(rt: HostRuntime) -> Result<(), Fail>
     assert!(rt; words == [7, 7, 7320, 9720, 12120, 15720, 7, 7]);
     fill(&book, BitSet::only(6), 240, &mut words[2..6]);
     assert!(rt; words == [7, 7, TOO_MUCH, TOO_MUCH, TOO_MUCH, TOO_MUCH, 7, 7]);
-    Ok(())
 }
 
 #[test]
-fn the_first_read_by_kinds_and_then_by_tempi(rt: HostRuntime) -> Result<(), Fail> {
-    let Some(book) = worked() else {
-        return Err(Fail::new("the worked book is refused"));
-    };
+fn the_first_read_by_kinds_and_then_by_tempi(rt: HostRuntime) {
+    let book = built_in_book();
     let all = BitSet::full();
     let eighth = Some(Read { kind: 1, tempo: 1 });
     assert!(rt; first_met(&book, all, None, 240, &[0; 4], 720) == eighth);
@@ -80,5 +35,4 @@ fn the_first_read_by_kinds_and_then_by_tempi(rt: HostRuntime) -> Result<(), Fail
     assert!(rt;
         first_met(&book, all, None, 240, &[1950, 0, 0, 0], 3030) == Some(Read { kind: 0, tempo: 3 })
     );
-    Ok(())
 }

@@ -1,15 +1,19 @@
 -- The taps that words stand for, by their places, and after a call. Assumes nothing.
-use Rattle.std.proofs.Common.{◌≡◌, ℕ, ◌+◌, ◌-◌, ◌<◌, min, List, [], ◌∷◌, length, get_or, Some, refl, ap, ◌∙◌, arith}
+use Rattle.std.proofs.Common.{◌≡◌, ℕ, ◌+◌, ◌-◌, ◌<◌, ◌≤◌, min, List, [], ◌∷◌, length, get_or, Some, refl, ap, ◌∙◌, arith}
 use Rattle.std.proofs.lemmas.Bool.Decides.{nat_tests}
 use Rattle.std.proofs.lemmas.Grind.{common_steps}
 use Rattle.taps.specs.Calls.{Call, taps, back, cost, read, garbled, last_of, gaps, turned, changed, after}
-use Rattle.taps.proofs.Between.{gap_at}
+use Rattle.taps.proofs.Between.{length_gaps, gap_at}
 use Rattle.taps.proofs.Ends.{last_is, but_last_is}
 use Rattle.onsets.specs.Onsets.{limit_of, taps_in, last_in, stored, words_after}
 
 -- how many taps there are
 count_is : (ws : List ℕ) → length (taps_in ws) ≡ min (get_or ws 0 0) (limit_of ws)
 count_is ws = grind (arith, common_steps)
+
+-- and no more gaps than a reading may have
+pub few_gaps : (ws : List ℕ) → length (gaps (taps_in ws)) ≤ 255
+few_gaps ws = omega (arith, count_is ws, length_gaps (taps_in ws))
 
 -- a tap's time is in the word whose place is one more than its number
 time_at : (ws : List ℕ) (i : ℕ) → i < length (taps_in ws) → get_or (taps_in ws) i 0 ≡ get_or ws (i + 1) 0

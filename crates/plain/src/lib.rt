@@ -22,8 +22,12 @@ use least::least_of;
 use model::{Step, Trellis};
 use shift::shift;
 use taps::book::Book;
+use taps::call::MOST_TAPS;
 use taps::read::TOO_MUCH;
 use taps::tempi::MOST_TEMPI;
+
+// Words for the rows of as many gaps as a reading may have, in any book.
+pub const MOST_ROW_WORDS: usize = MOST_TAPS * (MOST_TEMPI + 1);
 
 #[derive(Clone, Copy)]
 pub struct Plain {

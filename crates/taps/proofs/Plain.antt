@@ -1,12 +1,12 @@
 -- The plain book is a general reader: readings, what they cost, the least and the reading told are the same. Assumes nothing.
-use Rattle.std.proofs.Common.{◌≡◌, ℕ, suc, ◌+◌, ◌<◌, min, true, eqb, ltb, List, [], ◌∷◌, length, Some, Option, unwrap_or, sym, refl, ap, ◌∙◌, inl, inr, arith}
+use Rattle.std.proofs.Common.{◌≡◌, ℕ, suc, ◌+◌, ◌<◌, ◌≤◌, min, true, eqb, ltb, List, [], ◌∷◌, length, Some, Option, unwrap_or, sym, refl, ap, ◌∙◌, inl, inr, arith}
 use Rattle.std.specs.Option.{option_map}
 use Rattle.std.proofs.lemmas.Bool.{and_parts, and_from, ltb-true, lt-ltb, eqb-true, eq-eqb}
 use Rattle.least.specs.Minima.{capped, plus, hits, over, first, and_then, cheapest}
 use Rattle.least.specs.Readers.{Reads, total, suffix, told, readings}
 use Rattle.least.proofs.Minimal.{plus_some, first_same, cheapest_found}
 use Rattle.least.proofs.Folds.{from_same}
-use Rattle.least.proofs.Capped.{capped_some, capped_hits, capped_from}
+use Rattle.least.proofs.Capped.{capped_below, capped_some, capped_hits, capped_from}
 use Rattle.least.proofs.Trying.{suffix_tried, told_tried}
 use Rattle.taps.specs.Readings.{Book, Read, costs, all_cost, in_book, too_much, least, first_read, reading}
 use Rattle.std.specs.List.{range_with_len}
@@ -57,6 +57,9 @@ module _ (b : Book) where
       from_same _ _ too_much _ _ (kinds_least b before g (λ t. least b t gs) (length b.kinds) too_much) (capped_from (costs b before g) (after gs) (all_reads b) too_much)
       (λ v h. let r : Read = read h.0 h.2.0 in (r, reads_all b r (h.1, h.2.1), h.2.2 ∙ rest r))
       (λ v h. let i = reads_in b h.0 h.1 in (h.0.kind, i.0, (h.0.tempo, i.1, h.2 ∙ sym (rest h.0))))
+
+  pub least_capped : (before : ℕ) (gs : List ℕ) → least b before gs ≤ too_much
+  least_capped before gs = omega (arith, same_least before gs, capped_below too_much (suffix (plain b) before gs))
 
   -- the read that is taken is the first of the cheapest
   taken : (before g : ℕ) (gs : List ℕ) (m : ℕ) → m < too_much → over (λ r. plus (costs b before g r) (after gs r)) (all_reads b) ≡ Some m →

@@ -14,6 +14,7 @@ ghost use Rattle.taps.specs.Worked.{TwoTaps, OneTap};
 
 pub mod answer;
 pub mod book;
+pub mod built_in;
 pub mod call;
 pub mod kind;
 pub mod kinds;

@@ -1,8 +1,14 @@
 use Rattle.std.proofs.Common.{inr, arith}
+use Rattle.std.proofs.lemmas.Bool.Decides.{nat_tests}
 use Rattle.taps.specs.Calls.{turned, place}
 use Rattle.wire.proofs.Told.{refused_by_one}
+use Rattle.answers.specs.Answered.{told_of, left_of}
 use Rattle.answers.proofs.answer_bytes.Goals as goal
 
 pub returns-clause-value : goal.returns-clause-value
-unfolding turned place
-returns-clause-value c = inr (grind arith, λ b. grind (arith, refused_by_one c.args.request.now))
+unfolding turned place told_of
+returns-clause-value c = grind (arith, nat_tests, refused_by_one c.args.request.now)
+
+pub returns-clause-left : goal.returns-clause-left
+unfolding turned place left_of
+returns-clause-left c = grind (arith, nat_tests, refused_by_one c.args.request.now)

@@ -1,5 +1,6 @@
 use Rattle.std.proofs.Common.{arith}
-use Rattle.taps.specs.Readings.{least, reading}
+use Rattle.std.proofs.lemmas.Bool.Decides.{nat_tests}
+use Rattle.taps.specs.Readings.{reading}
 use Rattle.taps.specs.Calls.{turned, told, place}
 use Rattle.taps.proofs.Between.{no_gaps}
 use Rattle.answers.proofs.answer_call.Goals as goal
@@ -13,8 +14,8 @@ unfolding told place
 returns-in-Back-clause-value c = grind arith
 
 pub returns-in-Cost-clause-value : goal.returns-in-Cost-clause-value
-unfolding told turned least
-returns-in-Cost-clause-value c = grind (arith, no_gaps)
+unfolding told turned
+returns-in-Cost-clause-value c = grind (arith, nat_tests)
 
 pub returns-in-Read-clause-value : goal.returns-in-Read-clause-value
 unfolding told turned reading
