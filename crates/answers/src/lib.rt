@@ -14,6 +14,7 @@ ghost use Rattle.onsets.specs.Onsets.{limit_of, taps_in, words_after};
 ghost use Rattle.plain.specs.Restricted.{Free, gaps_of};
 ghost use Rattle.wire.specs.Wire.{call_in};
 ghost use Rattle.answers.specs.Answered.{Answered, heard, left_of, rows_after, short, told_of, unanswered};
+ghost use Rattle.answers.specs.Laws.{CostTold};
 
 use bitset::BitSet;
 use model::Step;
@@ -66,6 +67,11 @@ pub fn answer_call(book: &Book, words: &mut [u64], rows: &mut [u64], call: Call)
         Call::Read => no_reading(words),
     }
 }
+
+// What the best reading costs is always answered, of taps as a desk holds them.
+pub fn cost_stands()
+    ensures { CostTold }
+{}
 
 // What the best reading costs, by the rows of all gaps.
 fn best_cost(book: &Book, words: &[u64], rows: &mut [u64]) -> Option<u64>

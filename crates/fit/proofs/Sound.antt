@@ -5,7 +5,7 @@ use Rattle.std.specs.List.{range_with_len}
 use Rattle.std.proofs.lemmas.Bool.{cond-true}
 use Rattle.bitset.specs.Members.{member}
 use Rattle.least.specs.Minima.{first, Among, Sooner}
-use Rattle.least.proofs.Minimal.{First, first_is, first_same, least_more, over_least}
+use Rattle.least.proofs.Minimal.{First, first_is, first_same, least_more, over_numbers}
 use Rattle.least.proofs.Lists.{filter_from, filter_has, filter_sooner, numbers_within, numbers_have, numbers_sooner}
 use Rattle.taps.specs.Readings.{Book, Read, costs}
 use Rattle.taps.specs.Plain.{read, reads_of}
@@ -33,7 +33,7 @@ pub lowest : Lowest
 unfolding Lowest
 lowest b set gap t =
     least_more (λ v. (k : ℕ) × Among k (allowed b set) × (v ≡ fit b gap k t)) _ (least_fit b set gap t)
-    (over_least (λ k. Some (fit b gap k t)) (allowed b set) (λ k v. v ≡ fit b gap k t) (λ k a. (refl, λ v e. omega arith)))
+    (over_numbers (λ k. fit b gap k t) (allowed b set))
     (λ v h. (h.0, allows b set h.0 h.1, h.2))
     (λ v h. (v, (h.0, allowed_has b set h.0 h.1, h.2), omega arith))
 

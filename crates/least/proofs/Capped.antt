@@ -1,9 +1,9 @@
 -- Costs as numbers below a cap that stands for none: a loop over such numbers finds the least, and tells the same members apart. Assumes nothing.
-use Rattle.std.proofs.Common.{◌≡◌, ℕ, ◌+◌, ◌<◌, ◌≤◌, min, eqb, ◌⊎◌, List, [], ◌∷◌, Some, None, Option, refl, ap, ◌∙◌, inl, inr, arith}
+use Rattle.std.proofs.Common.{◌≡◌, ℕ, ◌+◌, ◌<◌, ◌≤◌, min, eqb, List, [], ◌∷◌, Some, None, Option, sym, refl, ap, ◌∙◌, inl, inr, arith}
 use Rattle.std.proofs.lemmas.Bool.{cases_lt}
 use Rattle.std.proofs.lemmas.Bool.Decides.{nat_tests}
-use Rattle.least.specs.Minima.{Least, NoMore, lower, plus, both, capped, hits, over, Among}
-use Rattle.least.proofs.Minimal.{Within, plus_some, over_under, over_found}
+use Rattle.least.specs.Minima.{Least, NoMore, lower, plus, capped, hits, over, Among}
+use Rattle.least.proofs.Minimal.{Within, over_numbers}
 use Rattle.least.proofs.Folds.{LeastFrom}
 
 pub capped_below : (most : ℕ) (m : Option ℕ) → capped most m ≤ most
@@ -27,15 +27,10 @@ capped_over most f h (x ∷ xs) same =
     let rest = capped_over most f h xs (λ y a. same y (inr a)) in
     omega (arith, capped_lowers most (f x) (over f xs), capped_lowers most (h x) (over h xs))
 
--- what is added to a capped cost, and two capped costs together, are under the cap what the costs themselves are
+-- what is added to a capped cost is, under the cap, added to the cost itself
 pub capped_again : (most w : ℕ) (n : Option ℕ) → capped most (Some (w + capped most n)) ≡ capped most (plus w n)
 capped_again most w None = omega arith
 capped_again most w (Some n) = omega arith
-
-pub capped_both : (most : ℕ) (m n : Option ℕ) → capped most (Some (capped most m + capped most n)) ≡ capped most (both m n)
-capped_both most None n = omega arith
-capped_both most (Some m) None = omega arith
-capped_both most (Some m) (Some n) = omega arith
 
 pub capped_within : (most : ℕ) (m : Option ℕ) (v : ℕ) → Within m v → capped most m ≤ v
 capped_within most m v w = rw w.1 (omega (arith, w.2))
@@ -79,25 +74,7 @@ module _ {A : Type 0} (w : A → ℕ) (after : A → Option ℕ) (xs : List A) (
   abbrev pub CappedCost : ℕ → Type 0
   CappedCost v = (x : A) × Among x xs × (v ≡ w x + capped most (after x))
 
-  abbrev whole : Option ℕ
-  whole = over (λ x. plus (w x) (after x)) xs
-
-  capped_found : (m : Option ℕ) → whole ≡ m → (capped most m ≡ most) ⊎ CappedCost (capped most m)
-  capped_found None e = inl refl
-  capped_found (Some m) e =
-      elim (cases_lt m most) [
-        | inl l ↦
-            let f = over_found (λ x. plus (w x) (after x)) xs m e in
-            let u = plus_some (w f.0) (after f.0) m f.2 in
-            let same : capped most (after f.0) ≡ u.0 = ap (capped most) u.1 ∙ omega (arith, u.2) in
-            inr (f.0, f.1, omega (arith, u.2))
-        | inr l ↦ inl (omega arith)
-      ]
-
-  pub capped_from : LeastFrom CappedCost most (capped most whole)
+  pub capped_from : LeastFrom CappedCost most (capped most (over (λ x. plus (w x) (after x)) xs))
   capped_from =
-      record {
-        below = capped_below most whole;
-        under = λ v h. let more = capped_plus most (w h.0) whole (after h.0) (over_under (λ x. plus (w x) (after x)) h.0 xs h.1) in omega (arith, h.2);
-        found = capped_found whole refl;
-      }
+      let same = capped_over most (λ x. Some (w x + capped most (after x))) (λ x. plus (w x) (after x)) xs (λ x a. capped_again most (w x) (after x)) in
+      rw (sym same) (capped_least most CappedCost _ (over_numbers (λ x. w x + capped most (after x)) xs))

@@ -140,6 +140,10 @@ over_least f xs P each =
     let u = least_within (P x) (f x) v (each x h.1) h.2 in
     within_more (over f xs) u.0 v (no_more_some (over f xs) (f x) u.0 (over_under f x xs h.1) u.1) u.2)
 
+-- where each member is one number, it is the least of these
+pub over_numbers : {A : Type 0} (f : A → ℕ) (xs : List A) → Least (λ v. (x : A) × Among x xs × (v ≡ f x)) (over (λ x. Some (f x)) xs)
+over_numbers f xs = over_least (λ x. Some (f x)) xs (λ x v. v ≡ f x) (λ x a. (refl, λ v e. omega arith))
+
 -- ---- the first of a list
 pub record First {A : Type 0} (t : A → Bool) (xs : List A) (x : A) : Type 0 where
   pub is : first t xs ≡ Some x

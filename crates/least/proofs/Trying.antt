@@ -3,7 +3,7 @@ use Rattle.std.proofs.Common.{◌≡◌, List, [], ◌∷◌, Some, None, Option
 use Rattle.least.specs.Minima.{over, cheapest, Among, Sooner}
 use Rattle.least.specs.Readers.{Reader, Reads, total, suffix, told, ComesFirst, readings}
 use Rattle.least.specs.Laws.{Tried}
-use Rattle.least.proofs.Minimal.{least_same, over_least, cheapest_found, cheapest_none}
+use Rattle.least.proofs.Minimal.{least_same, over_numbers, cheapest_found, cheapest_none}
 use Rattle.least.proofs.Lists.{pairs_from, pairs_have, pairs_first, pairs_second}
 use Rattle.least.proofs.Best.{told_best, told_none, comes_both}
 use Rattle.least.proofs.Meet.{suffix_least}
@@ -47,7 +47,7 @@ module _ {G S C : Type 0} (r : Reader G S C) where
   pub suffix_tried : (s : S) (gs : List G) → suffix r s gs ≡ over (λ cs. Some (total r s gs cs)) (readings r s gs)
   suffix_tried s gs =
       least_same _ _ _ _ (suffix_least r s gs)
-      (over_least (λ cs. Some (total r s gs cs)) (readings r s gs) (λ cs v. v ≡ total r s gs cs) (λ cs a. (refl, λ v e. omega arith)))
+      (over_numbers (total r s gs) (readings r s gs))
       (λ v h. (v, (h.0, readings_have s gs h.0 h.1, h.2), omega arith))
       (λ v h. (v, (h.0, readings_from s gs h.0 h.1, h.2), omega arith))
 

@@ -26,6 +26,7 @@ pub struct Step {
     pub kinds: BitSet,
 }
 
+// A model of readings, which the field calls a trellis. (`Model` is a word of the language.)
 pub trait Trellis {
     ghost use Rattle.model.specs.declared.Step.{Step};
 

@@ -60,7 +60,7 @@ pub stays_sound : StaysSound
 unfolding StaysSound rises small
 stays_sound most = (record { few = omega arith; rising = refl; timely = refl }, ran_sound most)
 
-gaps_small : (ts : List ℕ) → small ts ≡ true → small (gaps ts) ≡ true
+pub gaps_small : (ts : List ℕ) → small ts ≡ true → small (gaps ts) ≡ true
 unfolding small gaps
 gaps_small [] below = refl
 gaps_small (t ∷ []) below = refl

@@ -4,7 +4,7 @@ use Rattle.std.proofs.lemmas.Bool.{cases_lt}
 use Rattle.least.specs.Minima.{Least, capped, plus, over, Among, Entry}
 use Rattle.least.proofs.Capped.{capped_least}
 use Rattle.least.proofs.Folds.{LeastFrom, Near, from_near}
-use Rattle.least.proofs.Minimal.{over_least}
+use Rattle.least.proofs.Minimal.{over_numbers}
 use Rattle.taps.specs.Readings.{Book, Read, costs, too_much}
 use Rattle.taps.specs.Plain.{read, reads_of}
 use Rattle.taps.proofs.Gap.{of_kinds, kinds_have}
@@ -45,9 +45,7 @@ module _ (b : Book) (g : Step) (after : List ℕ) where
 
   before_entry : (s v : ℕ) → LeastFrom (Arrived s) too_much v → v ≡ capped too_much (over (λ r. plus (costs b s g.gap r) (costs_in after (suc r.tempo))) (reads_of b (kinds_at b g)))
   before_entry s v h =
-      let reads =
-      over_least (λ r. plus (costs b s g.gap r) (costs_in after (suc r.tempo))) (reads_of b (kinds_at b g)) (λ r w. w ≡ costs b s g.gap r + get_or after (suc r.tempo) 0)
-      (λ r a. (refl, λ w e. omega arith)) in
+      let reads = over_numbers (λ r. costs b s g.gap r + get_or after (suc r.tempo) 0) (reads_of b (kinds_at b g)) in
       from_near (Arrived s) (ReadBefore s) too_much v _ h (capped_least too_much (ReadBefore s) _ reads) (some_read s) (its_tempo s)
 
   pub before_row : (new : List ℕ) → length new ≡ state_count b → LeastFrom (Arrived 0) too_much (get_or new 0 0) →

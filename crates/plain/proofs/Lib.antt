@@ -2,3 +2,4 @@ mod Freely
 mod Alone
 mod Backward
 mod Forward
+pub mod Room

@@ -109,3 +109,6 @@ fn lower(cost: u64, row: &mut [u64])
         row[t] = row[t].min(cost);
     }
 }
+
+#[cfg(test)]
+mod tests;

@@ -1,6 +1,5 @@
-use Rattle.std.proofs.Common.{rules, ◌≡◌, ltb, ℕ, ◌<◌, ◌≤◌, true, false, length, sym, refl, ◌∙◌, arith}
+use Rattle.std.proofs.Common.{◌≡◌, ltb, ℕ, ◌<◌, true, length, sym, refl, ◌∙◌, arith}
 use Rattle.std.proofs.lemmas.Bool.Decides.{nat_tests}
-use Rattle.std.proofs.lemmas.Grind.{common_steps}
 use Rattle.std.proofs.lemmas.List.Elements.{All-replicate}
 use Rattle.std.proofs.lemmas.List.Folds.{list_all_at}
 use Rattle.std.proofs.lemmas.Option.{none-some, slice_get-get_or}
@@ -9,7 +8,7 @@ use Rattle.taps.specs.Calls.{gaps}
 use Rattle.taps.proofs.Between.{length_gaps}
 use Rattle.onsets.specs.Onsets.{taps_in}
 use Rattle.onsets.proofs.Words.{few_gaps}
-use Rattle.answers.proofs.Steps.{made_more, made_all}
+use Rattle.answers.proofs.Steps.{made_more}
 use Rattle.answers.proofs.steps_of.Goals as goal
 
 pub loop-i-init : goal.loop-i-init

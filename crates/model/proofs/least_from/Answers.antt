@@ -1,4 +1,4 @@
-use Rattle.std.proofs.Common.{◌≡◌, subst, arith}
+use Rattle.std.proofs.Common.{rules, ◌≡◌, subst, arith}
 use Rattle.model.proofs.Least.{LeastEntered, entered_none, entered_more, entered_all}
 use Rattle.model.proofs.least_from.Goals as goal
 
@@ -7,9 +7,7 @@ loop-s-init g c = entered_none (g.M.Trellis.reader c.args.model.now) (g.M.Trelli
 
 pub loop-s-preserved : goal.loop-s-preserved
 loop-s-preserved g c =
-    let least = c.min-least.ensures in
-    entered_more (g.M.Trellis.reader c.args.model.now) (g.M.Trellis.states c.args.model.now) c.args.row.now c.loop-s.s c.loop-s.least c.min-least.result c.loop-s.invariant
-    (rw c.entry.ensures at least)
+    entered_more (g.M.Trellis.reader c.args.model.now) (g.M.Trellis.states c.args.model.now) c.args.row.now c.loop-s.s c.loop-s.least _ c.loop-s.invariant (search (rules, c.entry.ensures))
 
 pub returns : goal.returns
 returns g c =
