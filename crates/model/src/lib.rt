@@ -3,7 +3,7 @@
 // A model says how gaps may be read: in which states a reading may start and at what cost; what each gap may be read as
 // in each state, at what cost, and in which state that leaves it. It is a general reader of the crate `least`, as ghost
 // members of the trait `Trellis`; its methods make a row of costs, one for each state, from the row beside it. A table has
-// a row for each gap. Nothing here knows of kinds and tempi. `specs/Rows.antt` says which numbers a row has, and
+// a row for each gap. What a kind or a tempo is, nothing here asks. `specs/Rows.antt` says which numbers a row has, and
 // `specs/Laws.antt` what a model owes. Read `Trellis` first, and then `write_suffix_rows`.
 #![tactic(auto)]
 
@@ -70,6 +70,7 @@ pub trait Trellis {
 
 // Writes at the front of `words`, for the steps from each one on, the least that they cost from each state on, and last
 // the row after all steps; and says how many numbers these are. Nothing is written where they don't fit.
+#[tactic(auto, using(crate::proofs::Tables::rows_size))]
 pub fn write_suffix_rows<M: Trellis>(model: &M, steps: &[Step], words: &mut [u64]) -> Option<usize>
     ensures value { result ≡ room (suffix_rows (M.reader model.now) (M.count model.now) steps.now) words.old }
     ensures after { words.new ≡ written (suffix_rows (M.reader model.now) (M.count model.now) steps.now) words.old }

@@ -1,5 +1,5 @@
 -- What a gap costs alone at each tempo, and what the change costs besides. Assumes nothing.
-use Rattle.std.proofs.Common.{◌≡◌, ℕ, suc, ◌+◌, ◌-◌, ◌*◌, ◌<◌, ◌≤◌, eqb, List, [], ◌∷◌, length, get_or, set, take, drop, Some, Option, refl, ap, arith}
+use Rattle.std.proofs.Common.{◌≡◌, ℕ, suc, ◌+◌, ◌-◌, ◌*◌, ◌<◌, ◌≤◌, eqb, List, [], ◌∷◌, length, get_or, set, take, drop, Some, Option, All, refl, ap, ◌∙◌, arith}
 use lib.Dec.{eqb-suc-zero}
 use Rattle.std.proofs.lemmas.List.{take_rest}
 use Rattle.least.specs.Minima.{capped, over, Among}
@@ -7,8 +7,9 @@ use Rattle.least.proofs.Capped.{capped_some, capped_within}
 use Rattle.least.proofs.Minimal.{no_more_some, over_found, over_under}
 use Rattle.taps.specs.Readings.{pick, Book, apart, tempo_at, costs, too_much}
 use Rattle.taps.specs.Plain.{read}
-use Rattle.fit.specs.Fit.{fit, least_fit}
+use Rattle.fit.specs.Fit.{fit, least_fit, fits}
 use Rattle.model.specs.declared.Step.{Step}
+use Rattle.model.proofs.Numbers.{row_at, row_small}
 use Rattle.plain.specs.Restricted.{kinds_at}
 
 -- a row is the entry of the first state, and behind it those of the tempi
@@ -18,14 +19,20 @@ one_set (x ∷ []) v h = refl
 one_set (x ∷ (y ∷ ys)) v h = absurd (omega arith)
 
 -- the entries behind the first
-pub behind_first : (xs : List ℕ) (t : ℕ) → get_or (take (length xs - 1) (drop 1 xs)) t 0 ≡ get_or xs (suc t) 0
-behind_first [] t = refl
-behind_first (x ∷ xs) t = ap (λ ys. get_or ys t 0) (take_rest (x ∷ xs) 1)
+pub behind_first : (xs row : List ℕ) → row ≡ take (length xs - 1) (drop 1 xs) → (t : ℕ) → get_or row t 0 ≡ get_or xs (suc t) 0
+behind_first [] row e t = ap (λ ys. get_or ys t 0) e
+behind_first (x ∷ xs) row e t = ap (λ ys. get_or ys t 0) (e ∙ take_rest (x ∷ xs) 1)
 
 module _ (b : Book) (g : Step) where
   -- what the gap costs alone at a tempo
   abbrev pub alone : ℕ → ℕ
   alone t = capped too_much (least_fit b g.kinds.bits g.gap t)
+
+  pub alone_small : (row : List ℕ) → row ≡ fits b g.kinds.bits g.gap → All (λ v. v ≤ too_much) row
+  alone_small row e = rw e (row_small (length b.tempi) (least_fit b g.kinds.bits g.gap))
+
+  pub alone_at : (row : List ℕ) → row ≡ fits b g.kinds.bits g.gap → (t : ℕ) → t < length b.tempi → get_or row t 0 ≡ alone t
+  alone_at row e t h = ap (λ xs. get_or xs t 0) e ∙ row_at (length b.tempi) (least_fit b g.kinds.bits g.gap) t h
 
   -- what the change costs from a state to a tempo
   abbrev pub change : ℕ → ℕ → ℕ

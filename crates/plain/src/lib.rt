@@ -2,8 +2,8 @@
 //
 // A gap costs what it costs as one of its kinds at a tempo (`fit`), and what the change from the tempo before costs
 // (`shift`). State 0 is that there is no tempo before; the state after it is the book's first tempo, and so on. A row is
-// made from the row beside it in so many steps as the book has kinds times tempi. `specs/Rows.antt` says what rows have,
-// by the definitions of readings. Read `least_cost` first.
+// made from the row beside it by one look at each kind with each tempo. `specs/Rows.antt` says what rows have, by the
+// definitions of readings. Read `least_cost` first.
 #![tactic(auto)]
 
 ghost use Rattle.std.specs.Prelude.{◌≡◌, ℕ, ◌+◌, ◌<◌, ◌≤◌, min, All, length, slice_index};

@@ -10,6 +10,7 @@ use Rattle.taps.specs.Items.{items}
 use Rattle.taps.specs.Values.{kind_of, kinds_of, tempi_of, book_of}
 use Rattle.taps.specs.declared.kind.Kind.{Kind}
 use Rattle.taps.specs.declared.book.Book.{Book}
+use Rattle.taps.specs.declared.tempi.Tempi.{Tempi}
 
 -- a pair of neighbours in a list's tail is the next pair in the list
 next_pair : (t : ℕ) (ts : List ℕ) (k d : ℕ) → ltb (get_or (t ∷ ts) (suc k) d) (get_or (t ∷ ts) (suc k + 1) d) ≡ ltb (get_or ts k d) (get_or ts (k + 1) d)
@@ -31,7 +32,7 @@ good_is_sorted (t ∷ (u ∷ us)) false (suc k, below, by) =
     let rest = good_is_sorted (u ∷ us) false (k, omega (arith, below), λ d. by d ∙ next_pair t (u ∷ us) k d) in
     grind (arith, nat_tests)
 
-pub good_tempi_rise : (ts : List ℕ) → good_tempi ts ≡ true → IsStrictlyIncreasing ts
+good_tempi_rise : (ts : List ℕ) → good_tempi ts ≡ true → IsStrictlyIncreasing ts
 unfolding good_tempi
 good_tempi_rise [] h k below = absurd (omega arith)
 good_tempi_rise (t ∷ []) h k below = absurd (omega arith)
@@ -39,6 +40,10 @@ good_tempi_rise (t ∷ (u ∷ us)) h zero below = grind (arith, nat_tests)
 good_tempi_rise (t ∷ (u ∷ us)) h (suc k) below =
     let next : suc k + 1 ≡ suc (k + 1) = omega arith in
     rw next (good_tempi_rise (u ∷ us) (and_parts (leb 100 t && ltb t u) (good_tempi (u ∷ us)) h).1 k (omega arith))
+
+-- so a book's tempi rise, as a slice too
+pub rising_tempi : (ts : Tempi) (slice : List ℕ) → slice ≡ tempi_of ts → IsStrictlyIncreasing slice
+rising_tempi ts slice e = rw e (good_tempi_rise (tempi_of ts) ts.rising)
 
 -- a kind's bounds are in its type, so any list of them is good
 pub good_each : (ks : List Kind) → good_kinds (map kind_of ks) ≡ true
