@@ -49,11 +49,12 @@ A call that is not taken changes nothing and is answered `refused NUMBER at PLAC
 
 The best reading of two taps or more is `not answered yet`; what it costs is answered.
 
-BOOK is a file with the bytes of a book. With none, gaps are read by the built-in book:
+BOOK is a file with the bytes of a book. With none, gaps are read by the built-in one:
 
-  kinds of 3 ticks, weight 2400; 6, 600; 12, 0; 24, 600; 8, 3000; 4, 3600, twelve ticks to a beat
-  tempi of 400, 500, 600 and 750 ms a beat
-  a change of tempo costs 20 for each ms";
+  kinds    3 ticks, twelve to a beat, with weight 2400; 6 with 600; 12 with 0;
+           24 with 600; 8 with 3000; 4 with 3600
+  tempi    400, 500, 600 and 750 ms a beat
+  change   20 for each ms";
 
 // The most bytes that a call takes.
 const CALL_SIZE: usize = 5;
@@ -82,7 +83,7 @@ fn run(rt: &HostRuntime) -> anyhow::Result<()> {
         next = args.next();
     }
     if args.next().is_some() {
-        bail!("more than one file of calls (desk --help tells more)");
+        bail!("more than one file of calls, or an option behind it (desk --help tells more)");
     }
     let Some(calls) = next else {
         return answer_lines(rt, &book, BufReader::new(rt.alloc(), rt.stdin())?);
