@@ -44,7 +44,7 @@ rows_after b ts calls.cost old = pick (short (gaps ts)) (written (rows b (gaps t
 rows_after b ts calls.read old = old
 rows_after b ts (calls.garbled p) old = old
 
--- the same in bytes: what is told of `old`, the lent slice, and what is left in it
+-- the answer in bytes: how many are told, where they are written into `old`, a lent slice, and what is left in it
 unfoldable pub told_of : Book → ℕ → ℕ → List ℕ → calls.Call → List ℕ → Option ℕ
 told_of b space most ts c old = pick (unanswered b space ts c) None (room (answer_bytes (answer b most ts c)) old)
 
