@@ -1,5 +1,5 @@
 pub mod Numbers
 mod Steps
 mod Bounds
-mod Tables
+pub mod Tables
 mod Least

@@ -5,31 +5,45 @@ use Rattle.std.proofs.lemmas.List.{length-append, length-take, take-take, take_a
 use Rattle.least.specs.Readers.{Reader, States, suffix}
 use Rattle.octets.specs.Bytes.{room, written}
 use Rattle.octets.proofs.Front.{read_back}
-use Rattle.model.specs.Rows.{states_below, suffix_row, suffix_rows, backward}
+use Rattle.model.specs.Rows.{states_below, for_suffixes, suffix_row, suffix_rows, backward}
 use Rattle.model.proofs.Numbers.{row_size, row_by}
 use Rattle.model.proofs.Steps.{backward_row}
 
+-- rows of n numbers each
+module _ {G : Type 0} (row : List G → List ℕ) (n : ℕ) (wide : (gs : List G) → length (row gs) ≡ n) where
+  pub suffixes_none : (gs : List G) → gs ≡ [] → length (for_suffixes row gs) ≡ n
+  unfolding for_suffixes
+  suffixes_none gs none = rw none (wide [])
+
+  pub suffixes_more : (gs hs : List G) (g : G) → gs ≡ g ∷ hs → length (for_suffixes row gs) ≡ n + length (for_suffixes row hs)
+  unfolding for_suffixes
+  suffixes_more gs hs g more = rw more (omega (arith, length-append (row (g ∷ hs)) (for_suffixes row hs), wide (g ∷ hs)))
+
+  pub suffixes_size : (gs : List G) → length (for_suffixes row gs) ≡ (length gs + 1) * n
+  suffixes_size [] = omega (arith, suffixes_none [] refl)
+  suffixes_size (g ∷ gs) = omega (arith, suffixes_more (g ∷ gs) gs g refl, suffixes_size gs, add-mul (length gs + 1) 1 n)
+
+  -- there is one at least, and the first is that of the whole list
+  pub suffixes_first : (gs : List G) → (n ≤ length (for_suffixes row gs)) × (take n (for_suffixes row gs) ≡ row gs)
+  unfolding for_suffixes
+  suffixes_first [] = (omega (arith, wide []), take_all n (row []) (omega (arith, wide [])))
+  suffixes_first (g ∷ gs) = (omega (arith, suffixes_more (g ∷ gs) gs g refl), take_at (row (g ∷ gs)) (for_suffixes row gs) n (wide (g ∷ gs)))
+
 module _ {G C : Type 0} (r : Reader G ℕ C) (n : ℕ) where
+  wide : (gs : List G) → length (suffix_row r n gs) ≡ n
+  wide gs = row_size n (λ s. suffix r s gs)
+
   pub rows_none : (gs : List G) → gs ≡ [] → length (suffix_rows r n gs) ≡ n
-  unfolding suffix_rows
-  rows_none gs none = rw none (row_size n (λ s. suffix r s []))
+  rows_none = suffixes_none (suffix_row r n) n wide
 
   pub rows_more : (gs hs : List G) (g : G) → gs ≡ g ∷ hs → length (suffix_rows r n gs) ≡ n + length (suffix_rows r n hs)
-  unfolding suffix_rows
-  rows_more gs hs g more = rw more (omega (arith, length-append (suffix_row r n (g ∷ hs)) (suffix_rows r n hs), row_size n (λ s. suffix r s (g ∷ hs))))
+  rows_more = suffixes_more (suffix_row r n) n wide
 
   pub rows_size : (gs : List G) → length (suffix_rows r n gs) ≡ (length gs + 1) * n
-  rows_size [] = omega (arith, rows_none [] refl)
-  rows_size (g ∷ gs) = omega (arith, rows_more (g ∷ gs) gs g refl, rows_size gs, add-mul (length gs + 1) 1 n)
-
-  -- there is one row at least, and the first is that of all steps
-  first_of : (gs : List G) → (n ≤ length (suffix_rows r n gs)) × (take n (suffix_rows r n gs) ≡ suffix_row r n gs)
-  unfolding suffix_rows
-  first_of [] = let size = rows_none [] refl in (omega (arith, size), take_all n (suffix_row r n []) (omega (arith, size)))
-  first_of (g ∷ gs) = (omega (arith, rows_more (g ∷ gs) gs g refl), take_at (suffix_row r n (g ∷ gs)) (suffix_rows r n gs) n (row_size n (λ s. suffix r s (g ∷ gs))))
+  rows_size = suffixes_size (suffix_row r n) n wide
 
   pub rows_first : (gs : List G) (words : List ℕ) → words ≡ suffix_rows r n gs → (n ≤ length words) × (take n words ≡ suffix_row r n gs)
-  rows_first gs words e = rw e (first_of gs)
+  rows_first gs words e = rw e (suffixes_first (suffix_row r n) n wide gs)
 
   -- the same of a slice that they are written into
   pub first_written : (gs : List G) (old words : List ℕ) (size : ℕ) → Some size ≡ room (suffix_rows r n gs) old → words ≡ written (suffix_rows r n gs) old →
@@ -41,13 +55,13 @@ module _ {G C : Type 0} (r : Reader G ℕ C) (n : ℕ) where
 
   -- after all steps nothing is left to cost anything
   pub rows_last : (gs : List G) (words : List ℕ) → gs ≡ [] → words ≡ replicate n 0 → words ≡ suffix_rows r n gs
-  unfolding suffix suffix_rows
+  unfolding suffix for_suffixes
   rows_last gs words none zeros = rw none (zeros ∙ row_by n (replicate n 0) (λ s. suffix r s []) (length-replicate n 0) (λ s h. get_or-replicate n s 0 0 h))
 
   -- the row before a step, and then the rows that there are
   pub rows_before : (st : States r) → st.all ≡ states_below n → (gs hs : List G) (g : G) (row rows : List ℕ) → gs ≡ g ∷ hs → row ≡ backward r n g (take n rows) →
       rows ≡ suffix_rows r n hs → row ++ rows ≡ suffix_rows r n gs
-  unfolding suffix_rows
+  unfolding for_suffixes
   rows_before st below gs hs g row rows more step e =
       let here : row ≡ suffix_row r n (g ∷ hs) =
       step ∙ ap (backward r n g) (rows_first hs rows e).1 ∙ sym (backward_row r st n below g hs) in

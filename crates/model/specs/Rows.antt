@@ -3,7 +3,7 @@
 -- A model is a general reader (`least/specs/Readers.antt`) whose states are the numbers below some n. A row has a number for each state: a cost, or `too_much`, which no cost
 -- is above either, where there is none.
 -- suffix_row: for each state what some steps cost from it on. prefix_row: for each state what they cost that end in it.
--- suffix_rows: the suffix rows of all steps, of all but the first, and so on; last the row after all of them.
+-- suffix_rows: the suffix rows of all steps, of all but the first, and so on; last the row after all of them, as for_suffixes puts them.
 -- backward, forward: the row before a step by the row after it, and the row after it by the row before it. starting: the least of all by the row before the first step.
 use Rattle.std.specs.Prelude.{ℕ, List, [], ◌∷◌, ◌++◌, map, Some, Option, slice_index}
 use Rattle.std.specs.List.{range_with_len}
@@ -25,9 +25,13 @@ costs_in row s = Some (slice_index row s)
 abbrev pub suffix_row : {G C : Type 0} → Reader G ℕ C → ℕ → List G → List ℕ
 suffix_row r n gs = row_of n (λ s. suffix r s gs)
 
-unfoldable pub suffix_rows : {G C : Type 0} → Reader G ℕ C → ℕ → List G → List ℕ
-suffix_rows r n [] = suffix_row r n []
-suffix_rows r n (g ∷ gs) = suffix_row r n (g ∷ gs) ++ suffix_rows r n gs
+-- a row for each suffix of a list, one behind the other: that of the whole list first, and that of the empty list last
+unfoldable pub for_suffixes : {G : Type 0} → (List G → List ℕ) → List G → List ℕ
+for_suffixes row [] = row []
+for_suffixes row (g ∷ gs) = row (g ∷ gs) ++ for_suffixes row gs
+
+abbrev pub suffix_rows : {G C : Type 0} → Reader G ℕ C → ℕ → List G → List ℕ
+suffix_rows r n gs = for_suffixes (suffix_row r n) gs
 
 abbrev pub backward : {G C : Type 0} → Reader G ℕ C → ℕ → G → List ℕ → List ℕ
 backward r n g after = row_of n (λ s. over (λ c. plus (r.cost s g c) (costs_in after (r.next s g c))) (r.choices s g))

@@ -9,7 +9,7 @@ use Rattle.taps.specs.Readings.{Book, costs, too_much, least}
 use Rattle.taps.specs.Plain.{reads_of, all_reads, plain}
 use Rattle.taps.proofs.Plain.{same_least}
 use Rattle.fit.proofs.Sound.{allowed_all}
-use Rattle.model.specs.Rows.{states_below, suffix_row, suffix_rows}
+use Rattle.model.specs.Rows.{states_below, for_suffixes, suffix_row, suffix_rows}
 use Rattle.model.specs.declared.Step.{Step}
 use Rattle.plain.specs.Restricted.{restricted, state_count, gaps_of, Free}
 use Rattle.plain.specs.Rows.{row, rows}
@@ -31,7 +31,7 @@ module _ (b : Book) (few : length b.kinds ≤ 32) where
   free_row gs free = λ i. map (λ s. free_cost gs free s i) (states_below (state_count b))
 
   pub free_rows : (gs : List Step) → Free gs → suffix_rows (restricted b) (state_count b) gs ≡ rows b (gaps_of gs)
-  unfolding suffix_rows rows
+  unfolding for_suffixes
   free_rows [] free = free_row [] free
   free_rows (g ∷ gs) free =
       let rest = free_rows gs (All-tail (λ h. (k : ℕ) → k < 32 → member h.kinds.bits k ≡ true) g gs free) in

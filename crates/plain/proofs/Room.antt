@@ -1,20 +1,14 @@
 -- How many words the rows of a book take. Assumes nothing.
-use Rattle.std.proofs.Common.{◌≡◌, ℕ, ◌+◌, ◌*◌, ◌≤◌, List, [], ◌∷◌, length, mul-le-mul, arith}
-use Rattle.std.proofs.Math.Nat.{add-mul}
-use Rattle.std.proofs.lemmas.List.{length-append}
+use Rattle.std.proofs.Common.{◌≡◌, ℕ, ◌+◌, ◌*◌, ◌≤◌, List, length, mul-le-mul, arith}
 use Rattle.std.proofs.lemmas.List.FromFn.{length-map-range_with_len}
 use Rattle.taps.specs.Readings.{Book, least}
+use Rattle.model.proofs.Tables.{suffixes_size}
 use Rattle.plain.specs.Restricted.{state_count}
 use Rattle.plain.specs.Rows.{row, rows}
 
 module _ (b : Book) where
-  row_size : (gs : List ℕ) → length (row b gs) ≡ state_count b
-  row_size gs = length-map-range_with_len (λ before. least b before gs) 0 (state_count b)
-
   rows_size : (gs : List ℕ) → length (rows b gs) ≡ (length gs + 1) * state_count b
-  unfolding rows
-  rows_size [] = omega (arith, row_size [])
-  rows_size (g ∷ gs) = omega (arith, length-append (row b (g ∷ gs)) (rows b gs), row_size (g ∷ gs), rows_size gs, add-mul (length gs + 1) 1 (state_count b))
+  rows_size = suffixes_size (row b) (state_count b) (λ gs. length-map-range_with_len (λ before. least b before gs) 0 (state_count b))
 
   -- those of 255 gaps and 64 tempi fit 256 times 65
   pub rows_room : (gs : List ℕ) → length gs ≤ 255 → length b.tempi ≤ 64 → length (rows b gs) ≤ 16640
