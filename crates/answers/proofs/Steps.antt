@@ -1,9 +1,9 @@
 -- Steps that are made of gaps, one after the other. Assumes nothing.
-use Rattle.std.proofs.Common.{◌≡◌, ℕ, ◌+◌, ◌<◌, ◌≤◌, true, ltb, List, [], ◌∷◌, ◌++◌, length, take, get_or, set, sym, refl, ap, ◌∙◌, arith}
+use Rattle.std.proofs.Common.{◌≡◌, ℕ, ◌+◌, ◌<◌, true, ltb, List, [], ◌∷◌, ◌++◌, length, take, get_or, set, sym, refl, ap, ◌∙◌, arith}
 use Rattle.std.proofs.lemmas.Bool.{and_from, lt-ltb}
 use Rattle.std.proofs.lemmas.Grind.{take-set_at}
-use Rattle.std.proofs.lemmas.List.{length-set, map-append, take_more, take_all}
-use Rattle.std.proofs.lemmas.List.Elements.{All-set, All-take}
+use Rattle.std.proofs.lemmas.List.{length-set, map-append, take_more}
+use Rattle.std.proofs.lemmas.List.Elements.{All-set}
 use Rattle.std.proofs.lemmas.List.Folds.{list_all_more}
 use Rattle.bitset.specs.Members.{member}
 use Rattle.bitset.specs.declared.BitSet.{BitSet}
@@ -25,8 +25,3 @@ module _ (gs : List ℕ) where
         All-set (λ x. (k : ℕ) → k < 32 → member x.kinds.bits k ≡ true) all i s free h.2,
         length-set all i s ∙ h.3,
       )
-
-  pub made_all : (all : List Step) (i : ℕ) → Made all i → length gs ≤ i → (short gs ≡ true) × (gaps_of (take i all) ≡ gs) × Free (take i all)
-  made_all all i h done =
-      let whole : take i gs ≡ gs = take_all i gs done in
-      (ap short (sym whole) ∙ h.1, h.0 ∙ whole, All-take (λ x. (k : ℕ) → k < 32 → member x.kinds.bits k ≡ true) i all h.2)

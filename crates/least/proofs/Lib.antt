@@ -10,3 +10,4 @@ pub mod Parts
 pub mod Meet
 pub mod Imitation
 pub mod Trying
+pub mod Numbered

@@ -45,7 +45,7 @@ module _ {G C : Type 0} (r : Reader G ℕ C) (st : States r) (n : ℕ) (below : 
   along_last row [] g t = refl
   along_last row (h ∷ gs) g t = along_last (onward r st row h) gs g t
 
-  pub forward_row : (gs : List G) (g : G) → prefix_row r st n (gs ++ g ∷ []) ≡ forward r st n g (prefix_row r st n gs)
+  forward_row : (gs : List G) (g : G) → prefix_row r st n (gs ++ g ∷ []) ≡ forward r st n g (prefix_row r st n gs)
   forward_row gs g =
       row_same n _ _
       (λ t h.

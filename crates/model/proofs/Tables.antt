@@ -11,11 +11,11 @@ use Rattle.model.proofs.Steps.{backward_row}
 
 -- rows of n numbers each
 module _ {G : Type 0} (row : List G → List ℕ) (n : ℕ) (wide : (gs : List G) → length (row gs) ≡ n) where
-  pub suffixes_none : (gs : List G) → gs ≡ [] → length (for_suffixes row gs) ≡ n
+  suffixes_none : (gs : List G) → gs ≡ [] → length (for_suffixes row gs) ≡ n
   unfolding for_suffixes
   suffixes_none gs none = rw none (wide [])
 
-  pub suffixes_more : (gs hs : List G) (g : G) → gs ≡ g ∷ hs → length (for_suffixes row gs) ≡ n + length (for_suffixes row hs)
+  suffixes_more : (gs hs : List G) (g : G) → gs ≡ g ∷ hs → length (for_suffixes row gs) ≡ n + length (for_suffixes row hs)
   unfolding for_suffixes
   suffixes_more gs hs g more = rw more (omega (arith, length-append (row (g ∷ hs)) (for_suffixes row hs), wide (g ∷ hs)))
 
@@ -24,7 +24,7 @@ module _ {G : Type 0} (row : List G → List ℕ) (n : ℕ) (wide : (gs : List G
   suffixes_size (g ∷ gs) = omega (arith, suffixes_more (g ∷ gs) gs g refl, suffixes_size gs, add-mul (length gs + 1) 1 n)
 
   -- there is one at least, and the first is that of the whole list
-  pub suffixes_first : (gs : List G) → (n ≤ length (for_suffixes row gs)) × (take n (for_suffixes row gs) ≡ row gs)
+  suffixes_first : (gs : List G) → (n ≤ length (for_suffixes row gs)) × (take n (for_suffixes row gs) ≡ row gs)
   unfolding for_suffixes
   suffixes_first [] = (omega (arith, wide []), take_all n (row []) (omega (arith, wide [])))
   suffixes_first (g ∷ gs) = (omega (arith, suffixes_more (g ∷ gs) gs g refl), take_at (row (g ∷ gs)) (for_suffixes row gs) n (wide (g ∷ gs)))

@@ -48,7 +48,7 @@ module _ (b : Book) (g : Step) (after : List ℕ) where
       let reads = over_numbers (λ r. costs b s g.gap r + get_or after (suc r.tempo) 0) (reads_of b (kinds_at b g)) in
       from_near (Arrived s) (ReadBefore s) too_much v _ h (capped_least too_much (ReadBefore s) _ reads) (some_read s) (its_tempo s)
 
-  pub before_row : (new : List ℕ) → length new ≡ state_count b → LeastFrom (Arrived 0) too_much (get_or new 0 0) →
+  before_row : (new : List ℕ) → length new ≡ state_count b → LeastFrom (Arrived 0) too_much (get_or new 0 0) →
       ((t : ℕ) → t < length b.tempi → LeastFrom (Arrived (suc t)) too_much (get_or new (suc t) 0)) → new ≡ backward (restricted b) (state_count b) g after
   before_row new size first rest =
       row_by (state_count b) new (λ s. over (λ r. plus (costs b s g.gap r) (costs_in after (suc r.tempo))) (reads_of b (kinds_at b g))) size
@@ -59,7 +59,7 @@ module _ (b : Book) (g : Step) (after : List ℕ) where
 
   module _ (row : List ℕ) (size : length row ≡ length b.tempi) (each : (t : ℕ) → t < length b.tempi → get_or row t 0 ≡ arrived t) where
     -- with no tempo before it is the least at any tempo
-    pub first_arrived : (m : Option ℕ) → Least (Entry row) m → LeastFrom (Arrived 0) too_much (unwrap_or m too_much)
+    first_arrived : (m : Option ℕ) → Least (Entry row) m → LeastFrom (Arrived 0) too_much (unwrap_or m too_much)
     first_arrived None l =
         record { below = omega arith; under = λ v h. absurd (l (get_or row h.0 0) (h.0, omega (arith, size, h.1), refl)); found = inl refl }
     first_arrived (Some m) l =
@@ -73,7 +73,7 @@ module _ (b : Book) (g : Step) (after : List ℕ) where
         }
 
     -- after a tempo it is the least that two passes leave
-    pub later_arrived : (new : List ℕ) → Shifted b.change b.tempi row new → length new ≡ length b.tempi → (s : ℕ) → s < length b.tempi → get_or new s 0 ≤ get_or row s 0 →
+    later_arrived : (new : List ℕ) → Shifted b.change b.tempi row new → length new ≡ length b.tempi → (s : ℕ) → s < length b.tempi → get_or new s 0 ≤ get_or row s 0 →
         LeastFrom (Arrived (suc s)) too_much (get_or new s 0)
     later_arrived new shifted long s h kept =
         let l = shifted s (omega arith) in

@@ -1,29 +1,20 @@
 -- What the plain book owes as a model: its states are finitely many, and a good book has for each fair step a read that costs little. Assumes nothing.
-use Rattle.std.proofs.Common.{◌≡◌, ℕ, suc, ◌<◌, ◌≤◌, true, List, [], ◌∷◌, length, eqb, ltb, refl, inl, inr, arith}
-use Rattle.std.proofs.lemmas.Bool.{and_parts, eqb-true, eq-eqb, ltb-true}
+use Rattle.std.proofs.Common.{◌≡◌, ℕ, ◌<◌, ◌≤◌, true, List, [], ◌∷◌, length, ltb, refl, inl, inr, arith}
+use Rattle.std.proofs.lemmas.Bool.{and_parts, ltb-true}
 use Rattle.least.specs.Minima.{Among}
 use Rattle.least.specs.Readers.{States}
-use Rattle.least.proofs.Lists.{numbers_have}
+use Rattle.least.proofs.Numbered.{numbered}
 use Rattle.taps.specs.Readings.{Book, Read, costs}
 use Rattle.taps.specs.Plain.{read, reads_of}
 use Rattle.taps.specs.Promise.{GoodBook}
 use Rattle.taps.proofs.Bound.{per, costs_little}
 use Rattle.taps.proofs.Gap.{of_kinds, kinds_have}
 use Rattle.model.specs.Laws.{Lawful}
-use Rattle.model.specs.Rows.{states_below}
 use Rattle.model.specs.declared.Step.{Step}
 use Rattle.plain.specs.Restricted.{kinds_at, restricted, state_count, fair}
 
 abbrev pub states : (b : Book) → States (restricted b)
-states b =
-    record {
-      all = states_below (state_count b);
-      same = eqb;
-      same_is = eqb-true;
-      is_same = λ s. eq-eqb s s refl;
-      starts_in = λ s a. elim a [ inl e ↦ numbers_have s 0 (state_count b) (omega arith) (omega arith) | inr none ↦ absurd none ];
-      next_in = λ s g r a i. numbers_have (suc r.tempo) 0 (state_count b) (omega arith) (omega (arith, (of_kinds b (kinds_at b g) r i).1));
-    }
+states b = numbered (restricted b) (state_count b) (λ s a. elim a [ inl e ↦ omega arith | inr none ↦ absurd none ]) (λ s g r i. omega (arith, (of_kinds b (kinds_at b g) r i).1))
 
 -- a list that is not empty has a first member
 some_kind : (ks : List ℕ) → 0 < length ks → (k : ℕ) × Among k ks

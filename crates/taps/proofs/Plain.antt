@@ -1,7 +1,7 @@
 -- The plain book is a general reader: readings, what they cost, the least and the reading told are the same. Assumes nothing.
 use Rattle.std.proofs.Common.{◌≡◌, ℕ, suc, ◌+◌, ◌<◌, ◌≤◌, min, true, eqb, ltb, List, [], ◌∷◌, length, Some, Option, unwrap_or, sym, refl, ap, ◌∙◌, inl, inr, arith}
 use Rattle.std.specs.Option.{option_map}
-use Rattle.std.proofs.lemmas.Bool.{and_parts, and_from, ltb-true, lt-ltb, eqb-true, eq-eqb}
+use Rattle.std.proofs.lemmas.Bool.{and_parts, and_from, ltb-true, lt-ltb}
 use Rattle.least.specs.Minima.{capped, plus, hits, over, first, and_then, cheapest}
 use Rattle.least.specs.Readers.{Reads, total, suffix, told, readings}
 use Rattle.least.proofs.Minimal.{plus_some, first_same, cheapest_found}
@@ -9,9 +9,8 @@ use Rattle.least.proofs.Folds.{from_same}
 use Rattle.least.proofs.Capped.{capped_below, capped_some, capped_hits, capped_from}
 use Rattle.least.proofs.Trying.{suffix_tried, told_tried}
 use Rattle.taps.specs.Readings.{Book, Read, costs, all_cost, in_book, too_much, least, first_read, reading}
-use Rattle.std.specs.List.{range_with_len}
 use Rattle.taps.specs.Plain.{read, all_reads, plain, Plain, Finite, Tried}
-use Rattle.least.proofs.Lists.{numbers_have}
+use Rattle.least.proofs.Numbered.{numbered}
 use Rattle.taps.proofs.Gap.{In, reads_in, reads_all, with, meets, kinds_least, read_first}
 
 module _ (b : Book) where
@@ -107,14 +106,7 @@ plain_stands b before gs =
 pub finite_stands : Finite
 unfolding Finite
 finite_stands b = (
-  record {
-    all = range_with_len 0 (suc (length b.tempi));
-    same = eqb;
-    same_is = eqb-true;
-    is_same = λ s. eq-eqb s s refl;
-    starts_in = λ s a. elim a [ inl e ↦ numbers_have s 0 (suc (length b.tempi)) (omega arith) (omega arith) | inr none ↦ absurd none ];
-    next_in = λ s g r a i. numbers_have (suc r.tempo) 0 (suc (length b.tempi)) (omega arith) (omega (arith, (reads_in b r i).1));
-  },
+  numbered (plain b) (suc (length b.tempi)) (λ s a. elim a [ inl e ↦ omega arith | inr none ↦ absurd none ]) (λ s g r i. omega (arith, (reads_in b r i).1)),
   refl,
 )
 
