@@ -1,11 +1,12 @@
--- The numbers of a set whose bits are those of one number, and of one that a bit is taken from. Assumes nothing.
-use Rattle.std.proofs.Common.{◌≡◌, ℕ, ◌*◌, ◌^◌, ◌<◌, ◌≤◌, not, ◌&&◌, bit_and, eqb, ap, ◌∙◌, inl, inr, arith}
-use Rattle.std.specs.Int.{bit_at, bit_not, w32}
+-- The numbers of a set whose bits are those of one number, and of one that a bit is taken from; and the first number of a set. Assumes nothing.
+use Rattle.std.proofs.Common.{◌≡◌, ℕ, ◌*◌, ◌^◌, ◌<◌, ◌≤◌, true, false, Option, Some, None, eq-eqb, not, ◌&&◌, bit_and, eqb, ap, ◌∙◌, inl, inr, arith}
+use Rattle.std.specs.Option.{is_some, IfSome, MatchOption}
+use Rattle.std.specs.Int.{bit_at, bit_not, trailing_zeros, w32}
 use Rattle.std.specs.Int.Bits.{and_zero_r}
 use Rattle.std.proofs.lemmas.Bool.{cases_lt, cases_eq}
 use Rattle.std.proofs.lemmas.Bool.Decides.{nat_tests}
 use Rattle.std.proofs.lemmas.Nat.{pow_pos}
-use Rattle.std.proofs.lemmas.Nat.Bits.{bit_at-pow_same, bit_at-pow_other, bit_at-zero, bit_at_and, bit_at_not, bit_at_above, bit_at-lt, and_pow}
+use Rattle.std.proofs.lemmas.Nat.Bits.{bit_at-pow_same, bit_at-pow_other, bit_at-zero, bit_at_and, bit_at_not, bit_at_above, bit_at-lt, and_pow, bit_at-trailing_zeros}
 use Rattle.bitset.specs.Members.{member}
 
 -- m is the bit of i, if i is below 32, and else 0
@@ -52,3 +53,11 @@ bit_taken i m n j h fits below =
           grind (arith, nat_tests)
       | inr l ↦ let past = bit_at_above n 32 j below l in grind (arith, nat_tests)
     ]
+
+-- the lowest 1 of n stands for its first number, and where n is 0 it has none
+pub lowest_first : (n : ℕ) (o : Option ℕ) → n < 2 ^ 32 → is_some o ≡ not (eqb n 0) → IfSome o (λ k. k ≡ trailing_zeros w32 n) →
+    MatchOption o ((i : ℕ) → member n i ≡ false) (λ k. (k < 32) × (member n k ≡ true) × ((i : ℕ) → i < k → member n i ≡ false))
+lowest_first n None below is e = λ i. let none = bit_at-zero i in let nothing : n ≡ 0 = grind (arith, nat_tests) in rw nothing (grind (arith, nat_tests))
+lowest_first n (Some k) below is e =
+    let found = bit_at-trailing_zeros w32 n (grind (arith, nat_tests)) below in
+    rw e (found.0, eq-eqb _ _ found.1, λ i h. let none = found.2 i h in grind (arith, nat_tests))

@@ -4,7 +4,7 @@
 // fixes every bit. Read `has` first.
 #![tactic(auto)]
 
-ghost use Rattle.std.specs.Prelude.{◌≡◌, ℕ, ◌^◌, ◌<◌, ◌≤◌, true, ◌&&◌, not, ◌==◌};
+ghost use Rattle.std.specs.Prelude.{◌≡◌, ℕ, ◌^◌, ◌<◌, ◌≤◌, true, false, ◌&&◌, not, ◌==◌, MatchOption};
 ghost use Rattle.bitset.specs.Members.{member};
 
 // The first number that is in no set.
@@ -43,6 +43,13 @@ impl BitSet {
         ensures { result ≡ member self.bits i }
     {
         self.bits & bit(i) != 0
+    }
+
+    // The smallest number, if there is one.
+    pub fn first(self) -> Option<usize>
+        ensures { MatchOption result ((i : ℕ) → member self.bits i ≡ false) (λ k. (k < 32) × (member self.bits k ≡ true) × ((i : ℕ) → i < k → member self.bits i ≡ false)) }
+    {
+        (self.bits != 0).then(|| self.bits.trailing_zeros() as usize)
     }
 }
 

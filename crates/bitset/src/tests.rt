@@ -12,3 +12,12 @@ fn sets_have_their_numbers(rt: HostRuntime) {
         assert!(rt; BitSet::only(5).without(37).has(i) == (i == 5));
     }
 }
+
+#[test]
+fn the_first_is_the_smallest(rt: HostRuntime) {
+    assert!(rt; BitSet::full().first() == Some(0));
+    assert!(rt; BitSet::full().without(1).without(0).first() == Some(2));
+    for i in 0..40usize {
+        assert!(rt; BitSet::only(i).first() == (i < 32).then_some(i));
+    }
+}

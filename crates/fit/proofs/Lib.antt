@@ -1,4 +1,5 @@
 mod Left
+mod Smallest
 mod Priced
 mod Row
 mod Meeting

@@ -48,9 +48,11 @@ pub fn first_met(
     ensures { option_map read_of result ≡ first_meeting (book_of book.now) set.bits (before_of before) gap rest.now cost }
 {
     let mut found = None;
-    'kinds: for k in 0..book.kinds.list.count {
-        if !set.has(k) {
-            continue;
+    // The kinds that can still be the first: one that meets the cost at no tempo is taken out.
+    let mut open = set;
+    'kinds: while let Some(k) = open.first() {
+        if k >= book.kinds.list.count {
+            break;
         }
         for t in 0..rest.len() {
             let read = Read {
@@ -62,6 +64,7 @@ pub fn first_met(
                 break 'kinds;
             }
         }
+        open = open.without(k);
     }
     found
 }

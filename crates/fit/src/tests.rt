@@ -27,6 +27,8 @@ fn the_first_read_by_kinds_and_then_by_tempi(rt: HostRuntime) {
     assert!(rt; first_met(&book, all, Some(3), 240, &[0; 4], 5720) == eighth);
     assert!(rt; first_met(&book, all, None, 240, &[0; 4], 719).is_none());
     assert!(rt; first_met(&book, all.without(1), None, 240, &[0; 4], 720).is_none());
+    // a number of the set that is no kind of the book
+    assert!(rt; first_met(&book, BitSet::only(6), None, 240, &[0; 4], 720).is_none());
     // the first tempo of two: 6@400 and 6@500
     assert!(rt;
         first_met(&book, all, None, 240, &[0, 360, 0, 0], 1080) == Some(Read { kind: 1, tempo: 0 })
@@ -34,5 +36,9 @@ fn the_first_read_by_kinds_and_then_by_tempi(rt: HostRuntime) {
     // the first kind of two: 3@750 and 6@400
     assert!(rt;
         first_met(&book, all, None, 240, &[1950, 0, 0, 0], 3030) == Some(Read { kind: 0, tempo: 3 })
+    );
+    assert!(rt;
+        first_met(&book, all.without(0), None, 240, &[1950, 0, 0, 0], 3030)
+            == Some(Read { kind: 1, tempo: 0 })
     );
 }
