@@ -71,7 +71,6 @@ takes b set before gap rest cost all =
     let every : allowed b set ≡ range_with_len 0 (length b.kinds) = allowed_all b set all in
     read_first b before gap (λ t. get_or rest (t - 1) 0) cost (length b.kinds) 0
     ∙ ap (λ o. unwrap_or o (read 0 0))
-    (first_same _ (meets b before gap rest cost)
-    (λ r. let back : suc r.tempo - 1 ≡ r.tempo = omega arith in ap (λ t. eqb (costs b before gap r + get_or rest t 0) cost) back)
-    (reads_of b (range_with_len 0 (length b.kinds)))
+    (first_same _ (meets b before gap rest cost) (reads_of b (range_with_len 0 (length b.kinds)))
+    (λ r a. let back : suc r.tempo - 1 ≡ r.tempo = omega arith in ap (λ t. eqb (costs b before gap r + get_or rest t 0) cost) back)
     ∙ ap (λ ks. first (meets b before gap rest cost) (reads_of b ks)) (sym every))

@@ -2,8 +2,8 @@
 use Rattle.std.proofs.Common.{◌≡◌, ℕ, ◌+◌, ◌<◌, ◌≤◌, min, eqb, List, [], ◌∷◌, Some, None, Option, sym, refl, ap, ◌∙◌, inl, inr, arith}
 use Rattle.std.proofs.lemmas.Bool.{cases_lt}
 use Rattle.std.proofs.lemmas.Bool.Decides.{nat_tests}
-use Rattle.least.specs.Minima.{Least, NoMore, lower, plus, capped, hits, over, Among}
-use Rattle.least.proofs.Minimal.{Within, over_numbers}
+use Rattle.least.specs.Minima.{Least, NoMore, lower, plus, capped, hits, over, first, and_then, cheapest, Among}
+use Rattle.least.proofs.Minimal.{Within, first_same, over_numbers}
 use Rattle.least.proofs.Folds.{LeastFrom}
 
 pub capped_below : (most : ℕ) (m : Option ℕ) → capped most m ≤ most
@@ -58,7 +58,7 @@ capped_plus most x None (Some n) h = absurd h
 capped_plus most x (Some m) (Some n) h = omega arith
 
 -- what is met below the cap is what the costs themselves meet
-pub capped_hits : (most w m : ℕ) (n : Option ℕ) → m < most → eqb (w + capped most n) m ≡ hits m (plus w n)
+capped_hits : (most w m : ℕ) (n : Option ℕ) → m < most → eqb (w + capped most n) m ≡ hits m (plus w n)
 capped_hits most w m None h = grind (arith, nat_tests)
 capped_hits most w m (Some n) h =
     elim (cases_lt n most) [
@@ -68,6 +68,13 @@ capped_hits most w m (Some n) h =
           let neither : eqb (w + most) m ≡ eqb (w + n) m = grind (arith, nat_tests) in
           ap (λ k. eqb (w + k) m) same ∙ neither
     ]
+
+-- the first with which a least below the cap is met, by capped numbers of what follows, is the first of the cheapest
+pub capped_first : {A : Type 0} (w : A → ℕ) (after : A → Option ℕ) (xs : List A) (most : ℕ) (rest : A → ℕ) → ((x : A) → Among x xs → rest x ≡ capped most (after x)) → (m : ℕ) → m < most →
+    over (λ x. plus (w x) (after x)) xs ≡ Some m → first (λ x. eqb (w x + rest x) m) xs ≡ cheapest (λ x. plus (w x) (after x)) xs
+capped_first w after xs most rest same m small e =
+    first_same (λ x. eqb (w x + rest x) m) (λ x. hits m (plus (w x) (after x))) xs (λ x a. ap (λ n. eqb (w x + n) m) (same x a) ∙ capped_hits most (w x) m (after x) small)
+    ∙ sym (ap (λ o. and_then o (λ n. first (λ x. hits n (plus (w x) (after x))) xs)) e)
 
 -- a loop that starts with the cap and adds capped costs finds the capped least
 module _ {A : Type 0} (w : A → ℕ) (after : A → Option ℕ) (xs : List A) (most : ℕ) where

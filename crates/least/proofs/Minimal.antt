@@ -187,9 +187,10 @@ first_is t xs (Some x) e =
     let same : Some f.0 ≡ Some x = sym f.1.is ∙ e in
     subst (First t xs) (cc) f.1
 
-pub first_same : {A : Type 0} (t u : A → Bool) → ((x : A) → t x ≡ u x) → (xs : List A) → first t xs ≡ first u xs
-first_same t u e [] = refl
-first_same t u e (x ∷ xs) = (λ i. cond (e x i) (Some x) (first_same t u e xs i))
+-- two tests that say the same of each member
+pub first_same : {A : Type 0} (t u : A → Bool) (xs : List A) → ((x : A) → Among x xs → t x ≡ u x) → first t xs ≡ first u xs
+first_same t u [] e = refl
+first_same t u (x ∷ xs) e = (λ i. cond (e x (inl refl) i) (Some x) (first_same t u xs (λ y a. e y (inr a)) i))
 
 -- `first` is word for word the library's `find`
 pub first_append : {A : Type 0} (t : A → Bool) (xs ys : List A) → first t (xs ++ ys) ≡ option_or (first t xs) (first t ys)

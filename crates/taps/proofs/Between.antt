@@ -1,6 +1,5 @@
 -- The gaps between taps, by their places. Assumes nothing.
 use Rattle.std.proofs.Common.{◌≡◌, ℕ, zero, suc, ◌-◌, ◌<◌, List, [], ◌∷◌, length, get_or, refl, arith}
-use Rattle.std.proofs.lemmas.List.{nil_from_length}
 use Rattle.taps.specs.Calls.{gaps}
 
 -- one less than there are taps
@@ -9,10 +8,6 @@ unfolding gaps
 length_gaps [] = refl
 length_gaps (t ∷ []) = refl
 length_gaps (t ∷ u ∷ us) = omega (arith, length_gaps (u ∷ us))
-
--- fewer than two taps have no gap
-pub no_gaps : (ts : List ℕ) → length ts < 2 → gaps ts ≡ []
-no_gaps ts few = nil_from_length (gaps ts) (omega (arith, length_gaps ts))
 
 pub gap_at : (ts : List ℕ) (i : ℕ) → suc i < length ts → get_or (gaps ts) i 0 ≡ get_or ts (suc i) 0 - get_or ts i 0
 unfolding gaps

@@ -30,22 +30,30 @@ tempo_good (t ∷ (u ∷ us)) zero h =
     omega (arith, tempo_good (u ∷ us) 0 p.1, ltb-true t u (and_parts (leb 100 t) (ltb t u) p.0).1)
 tempo_good (t ∷ (u ∷ us)) (suc i) h = tempo_good (u ∷ us) i (and_parts (leb 100 t && ltb t u) (good_tempi (u ∷ us)) h).1
 
--- 2^29: more than a gap costs
-abbrev pub per : ℕ
-per = 536870912
+-- what a read costs at most, besides twelve times the gap
+abbrev pub most_besides : ℕ
+most_besides = 279301215
 
-bound : (x y w v : ℕ) → x < 16777216 → y ≤ 384000 → w < 16777216 → v ≤ 262140000 → (apart (12 * x) y + w) + v ≤ per
-bound x y w v p q r s = omega arith
+bound : (x y w v : ℕ) → y ≤ 384000 → w < 16777216 → v ≤ 262140000 → (apart (12 * x) y + w) + v ≤ 12 * x + most_besides
+bound x y w v q r s = omega arith
 
-pub costs_little : (b : Book) (before g : ℕ) (r : Read) → GoodBook b → g < 16777216 → costs b before g r ≤ per
-costs_little b before g r good short =
+pub costs_little : (b : Book) (before g : ℕ) (r : Read) → GoodBook b → costs b before g r ≤ 12 * g + most_besides
+costs_little b before g r good =
     let k = kind_good b.kinds r.kind good.2 in
     let t = tempo_good b.tempi r.tempo good.5 in
     let u = tempo_good b.tempi (before - 1) good.5 in
     let c : b.change ≤ 65535 = omega (arith, good.6) in
     let off : apart (tempo_at b (before - 1)) (tempo_at b r.tempo) ≤ 4000 = omega arith in
-    bound g ((kind_at b r.kind).ticks * tempo_at b r.tempo) (kind_at b r.kind).weight _ short (mul-le-mul {n₂ = 96} {m₂ = 4000} k.0 t) k.1
+    bound g ((kind_at b r.kind).ticks * tempo_at b r.tempo) (kind_at b r.kind).weight _ (mul-le-mul {n₂ = 96} {m₂ = 4000} k.0 t) k.1
     (pick_both (λ v. v ≤ 262140000) (eqb before 0) 0 (b.change * apart (tempo_at b (before - 1)) (tempo_at b r.tempo)) (λ _. omega arith) (λ _. mul-le-mul {n₂ = 65535} {m₂ = 4000} c off))
+
+-- gaps below an end, so many of them that the least does not reach the cap
+pub least_below : (b : Book) (before end : ℕ) (gs : List ℕ) → GoodBook b → ((g : ℕ) → Among g gs → g < end) → (12 * end + most_besides) * length gs < too_much → least b before gs < too_much
+least_below b before end gs good short few =
+    let little =
+    bounded (plain b) (12 * end + most_besides) (λ g. g < end)
+    (λ s g low. (read 0 0, reads_all b (read 0 0) (good.0, good.3), omega (arith, low, costs_little b s g (read 0 0) good))) before gs short in
+    omega (arith, few, same_least b before gs, capped_within too_much _ ((12 * end + most_besides) * length gs) little)
 
 small_each : (gs : List ℕ) → small gs ≡ true → (g : ℕ) → Among g gs → g < 16777216
 unfolding small
@@ -54,7 +62,4 @@ small_each (x ∷ xs) h g (inl e) = rw e (ltb-true x 16777216 (and_parts (ltb x 
 small_each (x ∷ xs) h g (inr a) = small_each xs (and_parts (ltb x 16777216) (small xs) h).1 g a
 
 pub least_little : (b : Book) (before : ℕ) (gs : List ℕ) → GoodBook b → small gs ≡ true → length gs ≤ 255 → least b before gs < too_much
-least_little b before gs good h few =
-    let little =
-    bounded (plain b) per (λ g. g < 16777216) (λ s g short. (read 0 0, reads_all b (read 0 0) (good.0, good.3), costs_little b s g (read 0 0) good short)) before gs (small_each gs h) in
-    omega (arith, same_least b before gs, capped_within too_much _ (per * length gs) little)
+least_little b before gs good h few = least_below b before 16777216 gs good (small_each gs h) (omega (arith, few))

@@ -46,7 +46,7 @@ pub rising_tempi : (ts : Tempi) (slice : List ℕ) → slice ≡ tempi_of ts →
 rising_tempi ts slice e = rw e (good_tempi_rise (tempi_of ts) ts.rising)
 
 -- a kind's bounds are in its type, so any list of them is good
-pub good_each : (ks : List Kind) → good_kinds (map kind_of ks) ≡ true
+good_each : (ks : List Kind) → good_kinds (map kind_of ks) ≡ true
 unfolding good_kinds
 good_each [] = refl
 good_each (k ∷ ks) =
@@ -55,7 +55,7 @@ good_each (k ∷ ks) =
 pub kind_count : (b : Book) → length (kinds_of b.kinds) ≡ b.kinds.list.count
 kind_count b = length-map (items b.kinds.list) kind_of ∙ length-take-le _ b.kinds.list.all (omega (arith, b.kinds.list.whole, b.kinds.list.few))
 
-pub tempo_count : (b : Book) → length (tempi_of b.tempi) ≡ b.tempi.list.count
+tempo_count : (b : Book) → length (tempi_of b.tempi) ≡ b.tempi.list.count
 tempo_count b = length-take-le _ b.tempi.list.all (omega (arith, b.tempi.list.whole, b.tempi.list.few))
 
 pub book_is_good : (b : Book) → GoodBook (book_of b)

@@ -1,17 +1,17 @@
 -- The plain book is a general reader: readings, what they cost, the least and the reading told are the same. Assumes nothing.
-use Rattle.std.proofs.Common.{◌≡◌, ℕ, suc, ◌+◌, ◌<◌, ◌≤◌, min, true, eqb, ltb, List, [], ◌∷◌, length, Some, Option, unwrap_or, sym, refl, ap, ◌∙◌, inl, inr, arith}
+use Rattle.std.proofs.Common.{◌≡◌, ℕ, suc, ◌+◌, ◌<◌, ◌≤◌, min, true, ltb, List, [], ◌∷◌, length, Some, Option, unwrap_or, sym, refl, ap, ◌∙◌, inl, inr, arith}
 use Rattle.std.specs.Option.{option_map}
 use Rattle.std.proofs.lemmas.Bool.{and_parts, and_from, ltb-true, lt-ltb}
-use Rattle.least.specs.Minima.{capped, plus, hits, over, first, and_then, cheapest}
+use Rattle.least.specs.Minima.{capped, plus, over, and_then, cheapest}
 use Rattle.least.specs.Readers.{Reads, total, suffix, told, readings}
-use Rattle.least.proofs.Minimal.{plus_some, first_same, cheapest_found}
+use Rattle.least.proofs.Minimal.{plus_some, cheapest_found}
 use Rattle.least.proofs.Folds.{from_same}
-use Rattle.least.proofs.Capped.{capped_below, capped_some, capped_hits, capped_from}
+use Rattle.least.proofs.Capped.{capped_below, capped_some, capped_first, capped_from}
 use Rattle.least.proofs.Trying.{suffix_tried, told_tried}
 use Rattle.taps.specs.Readings.{Book, Read, costs, all_cost, in_book, too_much, least, first_read, reading}
 use Rattle.taps.specs.Plain.{read, all_reads, plain, Plain, Finite, Tried}
 use Rattle.least.proofs.Numbered.{numbered}
-use Rattle.taps.proofs.Gap.{In, reads_in, reads_all, with, meets, kinds_least, read_first}
+use Rattle.taps.proofs.Gap.{In, reads_in, reads_all, with, kinds_least, read_first}
 
 module _ (b : Book) where
   in_parts : (r : Read) (rs : List Read) → in_book b (r ∷ rs) ≡ true → In b r × (in_book b rs ≡ true)
@@ -66,9 +66,7 @@ module _ (b : Book) where
   taken before g gs m small e =
       read_first b before g (λ t. least b t gs) m (length b.kinds) 0
       ∙ ap (λ o. unwrap_or o (read 0 0))
-      (first_same (meets b before g (λ t. least b t gs) m) (λ r. hits m (plus (costs b before g r) (after gs r)))
-      (λ r. ap (λ n. eqb (costs b before g r + n) m) (same_least (suc r.tempo) gs) ∙ capped_hits too_much (costs b before g r) m (after gs r) small) (all_reads b)
-      ∙ sym (ap (λ o. and_then o (λ n. first (λ r. hits n (plus (costs b before g r) (after gs r))) (all_reads b))) e))
+      (capped_first (costs b before g) (after gs) (all_reads b) too_much (λ r. least b (suc r.tempo) gs) (λ r a. same_least (suc r.tempo) gs) m small e)
 
   -- what follows a read that is below the cap is below it, too
   rest_small : (w m : ℕ) (r : Read) (gs : List ℕ) → plus w (after gs r) ≡ Some m → m < too_much → least b (suc r.tempo) gs < too_much
