@@ -21,7 +21,7 @@ module _ {G C : Type 0} (r : Reader G ℕ C) (st : States r) (n : ℕ) (below : 
   pub among_below : (s : ℕ) → Among s st.all → s < n
   among_below s a = let p = numbers_within s 0 n (subst (Among s) below a) in omega (arith, p.1)
 
-  below_among : (s : ℕ) → s < n → Among s st.all
+  pub below_among : (s : ℕ) → s < n → Among s st.all
   below_among s h = subst (Among s) (sym below) (numbers_have s 0 n (omega arith) (omega arith))
 
   pub backward_row : (g : G) (gs : List G) → suffix_row r n (g ∷ gs) ≡ backward r n g (suffix_row r n gs)

@@ -1,7 +1,7 @@
 -- Which numbers a table has: how many, and the rows one by one. Assumes nothing.
-use Rattle.std.proofs.Common.{◌≡◌, ℕ, ◌+◌, ◌*◌, ◌≤◌, min, List, [], ◌∷◌, ◌++◌, length, take, replicate, Some, sym, refl, ap, ◌∙◌, arith}
+use Rattle.std.proofs.Common.{◌≡◌, ℕ, ◌+◌, ◌*◌, ◌≤◌, min, List, [], ◌∷◌, ◌++◌, length, take, drop, replicate, Some, sym, refl, ap, ◌∙◌, arith}
 use Rattle.std.proofs.Math.Nat.{add-mul}
-use Rattle.std.proofs.lemmas.List.{length-append, length-take, take-take, take_at, take_all, get_or-replicate, length-replicate}
+use Rattle.std.proofs.lemmas.List.{length-append, length-take, take-take, take_at, drop_at, take_all, get_or-replicate, length-replicate}
 use Rattle.least.specs.Readers.{Reader, States, suffix}
 use Rattle.octets.specs.Bytes.{room, written}
 use Rattle.octets.proofs.Front.{read_back}
@@ -44,6 +44,11 @@ module _ {G C : Type 0} (r : Reader G ℕ C) (n : ℕ) where
 
   pub rows_first : (gs : List G) (words : List ℕ) → words ≡ suffix_rows r n gs → (n ≤ length words) × (take n words ≡ suffix_row r n gs)
   rows_first gs words e = rw e (suffixes_first (suffix_row r n) n wide gs)
+
+  -- and behind it stand those of all but the first step
+  pub rows_next : (g : G) (gs : List G) (words : List ℕ) → words ≡ suffix_rows r n (g ∷ gs) → drop n words ≡ suffix_rows r n gs
+  unfolding for_suffixes
+  rows_next g gs words e = ap (drop n) e ∙ drop_at (suffix_row r n (g ∷ gs)) (suffix_rows r n gs) n (wide (g ∷ gs))
 
   -- the same of a slice that they are written into
   pub first_written : (gs : List G) (old words : List ℕ) (size : ℕ) → Some size ≡ room (suffix_rows r n gs) old → words ≡ written (suffix_rows r n gs) old →

@@ -1,10 +1,11 @@
 -- What a model owes, and what holds of its rows. Each but the first is a statement: a type, whose proof is owed by the function whose contract names it. Assumes nothing.
-use Rattle.std.specs.Prelude.{◌≡◌, ℕ, suc, ◌*◌, ◌<◌, ◌≤◌, Bool, true, List, [], ◌∷◌, ◌++◌, length, Some}
+use Rattle.std.specs.Prelude.{◌≡◌, ℕ, suc, ◌*◌, ◌<◌, ◌≤◌, Bool, true, List, [], ◌∷◌, ◌++◌, length, Some, None}
 use Rattle.std.specs.List.{list_all}
 use Rattle.least.specs.Minima.{capped, Among}
-use Rattle.least.specs.Readers.{Reader, States, least}
+use Rattle.least.specs.Readers.{Reader, States, suffix, told, least}
 use Rattle.taps.specs.Readings.{too_much}
 use Rattle.model.specs.Rows.{states_below, suffix_row, backward, starting, prefix_row, forward}
+use Rattle.model.specs.Walk.{walked}
 
 -- its states are the numbers below n; a reading can start for no more than `most`, and at each step that is fair it can go on for no more than that
 pub record Lawful {G C : Type 0} (r : Reader G ℕ C) (st : States r) (n : ℕ) (fair : G → Bool) (most : ℕ) : Type 0 where
@@ -30,3 +31,10 @@ unfoldable pub Exact : (G C : Type 0) → Type 0
 Exact G C =
     (r : Reader G ℕ C) (st : States r) (n : ℕ) (fair : G → Bool) (most : ℕ) → Lawful r st n fair most → (gs : List G) → list_all fair gs ≡ true →
     most * suc (length gs) < too_much → least r gs ≡ Some (capped too_much (least r gs))
+
+-- from a state on, the walk over the rows reads what the general reader tells, the first best reading, where that costs less than `too_much`; and it reads nothing where
+-- there is no reading
+unfoldable pub Walked : (G C : Type 0) → Type 0
+Walked G C =
+    (r : Reader G ℕ C) (st : States r) (n : ℕ) → st.all ≡ states_below n → (s : ℕ) → s < n → (gs : List G) →
+    (capped too_much (suffix r s gs) < too_much → walked r n s gs ≡ told r s gs) × (suffix r s gs ≡ None → walked r n s gs ≡ None)

@@ -23,7 +23,7 @@ split_at_mut-row-requires g t c =
 pub fill_suffix_rows-requires : goal.fill_suffix_rows-requires
 fill_suffix_rows-requires g t c κs within =
     let all = rows_more (g.M.Trellis.reader c.args.model.now) (g.M.Trellis.count c.args.model.now) c.args.steps.now c.in-Some.rest.now c.in-Some.step.now c.in-Some.ensures.cases.0 in
-    (search rules, (search rules, omega (arith, all, c.requires, c.state_count-width.ensures, c.split_at_mut-row.ensures.front_len, c.split_at_mut-row.ensures.back_len)))
+    (search rules, (search rules, (search rules, omega (arith, all, c.requires, c.state_count-width.ensures, c.split_at_mut-row.ensures.front_len, c.split_at_mut-row.ensures.back_len))))
 
 pub slice_bounds-row_before-end : goal.slice_bounds-row_before-end
 slice_bounds-row_before-end g t c =
