@@ -1,16 +1,22 @@
 -- What a gap costs alone at each tempo, and what the change costs besides. Assumes nothing.
-use Rattle.std.proofs.Common.{◌≡◌, ℕ, suc, ◌+◌, ◌-◌, ◌*◌, ◌<◌, ◌≤◌, eqb, List, [], ◌∷◌, length, get_or, set, take, drop, Some, Option, All, refl, ap, ◌∙◌, arith}
+use Rattle.std.proofs.Common.{◌≡◌, ℕ, suc, ◌+◌, ◌-◌, ◌*◌, ◌<◌, ◌≤◌, eqb, List, [], ◌∷◌, length, get_or, set, take, drop, Some, None, Option, All, refl, ap, ◌∙◌, arith}
 use lib.Dec.{eqb-suc-zero}
+use Rattle.std.specs.Option.{SomeIff}
 use Rattle.std.proofs.lemmas.List.{take_rest}
 use Rattle.least.specs.Minima.{capped, over, Among}
 use Rattle.least.proofs.Capped.{capped_some, capped_within}
 use Rattle.least.proofs.Minimal.{no_more_some, over_found, over_under}
 use Rattle.taps.specs.Readings.{pick, Book, apart, tempo_at, costs, too_much}
 use Rattle.taps.specs.Plain.{read}
-use Rattle.fit.specs.Fit.{fit, least_fit, fits}
+use Rattle.fit.specs.Fit.{before_of, fit, least_fit, fits}
 use Rattle.model.specs.declared.Step.{Step}
 use Rattle.model.proofs.Numbers.{row_at, row_small}
 use Rattle.plain.specs.Restricted.{kinds_at}
+
+-- the place of the tempo before, if a state has one, tells the state
+pub before_state : (before : Option ℕ) (s : ℕ) → SomeIff before (1 ≤ s) (s - 1) → before_of before ≡ s
+before_state None s h = omega (arith, h)
+before_state (Some t) s h = omega (arith, h)
 
 -- a row is the entry of the first state, and behind it those of the tempi
 pub one_set : (xs : List ℕ) (v : ℕ) → length xs ≡ 1 → set xs 0 v ≡ v ∷ []

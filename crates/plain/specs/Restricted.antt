@@ -1,8 +1,8 @@
 -- The plain book as a reader of gaps that may be read as some of its kinds only. Assumes nothing: these are definitions.
 --
 -- A step is a gap with the kinds that it may be read as; a state is the tempo before, as one more than its place, or 0 where there is no gap before; a choice is a Read.
--- restricted: as the reader of `taps/specs/Plain.antt`, but for the kinds. fair: a gap that taps can have, with some kind to read it as.
-use Rattle.std.specs.Prelude.{◌≡◌, ℕ, suc, ◌<◌, Bool, true, ◌&&◌, All, List, [], ◌∷◌, map, length, nat_lt}
+-- restricted: as the reader of `taps/specs/Plain.antt`, but for the kinds. fair: there is some kind to read the gap as.
+use Rattle.std.specs.Prelude.{◌≡◌, ℕ, suc, ◌<◌, Bool, true, All, List, [], ◌∷◌, map, length, nat_lt}
 use Rattle.bitset.specs.Members.{member}
 use Rattle.least.specs.Readers.{Reader}
 use Rattle.taps.specs.Readings.{Book, Read, costs}
@@ -22,7 +22,7 @@ abbrev pub state_count : Book → ℕ
 state_count b = suc (length b.tempi)
 
 abbrev pub fair : Book → Step → Bool
-fair b g = nat_lt g.gap 16777216 && nat_lt 0 (length (kinds_at b g))
+fair b g = nat_lt 0 (length (kinds_at b g))
 
 -- the gaps of some steps; and that each may be read as any kind
 abbrev pub gaps_of : List Step → List ℕ
