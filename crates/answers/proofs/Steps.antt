@@ -6,7 +6,6 @@ use Rattle.std.proofs.lemmas.List.{length-set, map-append, take_more}
 use Rattle.std.proofs.lemmas.List.Elements.{All-set}
 use Rattle.std.proofs.lemmas.List.Folds.{list_all_more}
 use Rattle.bitset.specs.Members.{member}
-use Rattle.bitset.specs.declared.BitSet.{BitSet}
 use Rattle.model.specs.declared.Step.{Step}
 use Rattle.plain.specs.Restricted.{Free, gaps_of}
 use Rattle.answers.specs.Answered.{short}
@@ -16,12 +15,10 @@ module _ (gs : List ℕ) where
   abbrev pub Made : List Step → ℕ → Type 0
   Made all i = (gaps_of (take i all) ≡ take i gs) × (short (take i gs) ≡ true) × Free all × (length all ≡ 255)
 
-  pub made_more : (all : List Step) (i g : ℕ) (ks : BitSet) → Made all i → i < length gs → i < 255 → g ≡ get_or gs i 0 → g < 4294967296 → ((k : ℕ) → k < 32 → member ks.bits k ≡ true) →
-      Made (set all i (record { gap = g; kinds = ks })) (i + 1)
-  made_more all i g ks h inside room is low free =
-      let s : Step = record { gap = g; kinds = ks } in (
-        ap gaps_of (take-set_at all i (i + 1) s refl (omega (arith, h.3))) ∙ map-append (λ x. x.gap) (take i all) (s ∷ []) ∙ (λ j. h.0 j ++ (is j ∷ [])) ∙ sym (take_more gs i 0 inside),
-        list_all_more (λ x. ltb x 4294967296) gs i 0 inside ∙ and_from _ _ h.1 (lt-ltb (get_or gs i 0) 4294967296 (omega (arith, is))),
-        All-set (λ x. (k : ℕ) → k < 32 → member x.kinds.bits k ≡ true) all i s free h.2,
-        length-set all i s ∙ h.3,
-      )
+  pub made_more : (all : List Step) (i : ℕ) (s : Step) → Made all i → i < length gs → i < 255 → s.gap ≡ get_or gs i 0 → ((k : ℕ) → k < 32 → member s.kinds.bits k ≡ true) → Made (set all i s) (i + 1)
+  made_more all i s h inside room is free = (
+    ap gaps_of (take-set_at all i (i + 1) s refl (omega (arith, h.3))) ∙ map-append (λ x. x.gap) (take i all) (s ∷ []) ∙ (λ j. h.0 j ++ (is j ∷ [])) ∙ sym (take_more gs i 0 inside),
+    list_all_more (λ x. ltb x 4294967296) gs i 0 inside ∙ and_from _ _ h.1 (lt-ltb (get_or gs i 0) 4294967296 (omega (arith, is, s.short))),
+    All-set (λ x. (k : ℕ) → k < 32 → member x.kinds.bits k ≡ true) all i s free h.2,
+    length-set all i s ∙ h.3,
+  )

@@ -1,11 +1,42 @@
--- What holds of answers. It is a statement: a type, whose proof is owed by the function whose contract names it. Assumes nothing.
-use Rattle.std.specs.Prelude.{◌≡◌, ℕ, ◌≤◌, false, List}
-use Rattle.taps.specs.Readings.{Book}
-use Rattle.taps.specs.Calls.{cost}
-use Rattle.taps.specs.Promise.{GoodBook}
+-- What holds of answers. The last is a statement: a type, whose proof is owed by the function whose contract names it. Assumes nothing.
+--
+-- Best: what an answer about the best reading says of all readings.
+use Rattle.std.specs.Prelude.{◌≡◌, ℕ, ◌≤◌, true, false, List, [], ◌∷◌, length}
+use Rattle.taps.specs.Readings.{Book, Read, all_cost, in_book}
+use Rattle.taps.specs.Calls as calls
+use Rattle.taps.specs.Calls.{Answer, number, reads, gaps, after}
+use Rattle.taps.specs.Promise.{GoodBook, comes_first}
 use Rattle.onsets.specs.Laws.{Sound}
 use Rattle.answers.specs.Answered.{unanswered}
 
--- what the best reading costs is always answered, of taps as a desk holds them, where as many words are lent as any rows take
-unfoldable pub CostTold : Type 0
-CostTold = (b : Book) (most space : ℕ) (ts : List ℕ) → GoodBook b → Sound most ts → most ≤ 256 → 16640 ≤ space → unanswered b space ts cost ≡ false
+-- rs is a reading of the gaps of taps: one Read for each gap, of kinds and tempi of the book
+abbrev pub IsReading : Book → List ℕ → List Read → Type 0
+IsReading b ts rs = (length rs ≡ length (gaps ts)) × (in_book b rs ≡ true)
+
+-- the cost that is told is what a reading costs, and no reading costs less
+abbrev pub BestCost : Book → List ℕ → Answer → Type 0
+BestCost b ts a =
+    (n : ℕ) × (a ≡ number n) × ((rs : List Read) × IsReading b ts rs × (all_cost b 0 (gaps ts) rs ≡ n)) × ((rs : List Read) → IsReading b ts rs → n ≤ all_cost b 0 (gaps ts) rs)
+
+-- what is told is a reading, no reading costs less, and of those that cost as much it comes first
+abbrev pub FirstBest : Book → List ℕ → Answer → Type 0
+FirstBest b ts a =
+    (rs : List Read) × (a ≡ reads rs) × IsReading b ts rs
+    × ((qs : List Read) → IsReading b ts qs → (all_cost b 0 (gaps ts) rs ≤ all_cost b 0 (gaps ts) qs) × (all_cost b 0 (gaps ts) qs ≡ all_cost b 0 (gaps ts) rs → comes_first rs qs ≡ true))
+
+abbrev pub Best : Book → List ℕ → calls.Call → Answer → Type 0
+Best b ts (calls.taps t) a = Unit {0}
+Best b ts calls.back a = Unit {0}
+Best b ts calls.cost a = BestCost b ts a
+Best b ts calls.read a = FirstBest b ts a
+Best b ts (calls.garbled p) a = Unit {0}
+
+-- the same of the answers to a list of calls, one after another
+unfoldable pub AllBest : Book → ℕ → List ℕ → List calls.Call → List Answer → Type 0
+AllBest b most ts [] told = told ≡ []
+AllBest b most ts (c ∷ cs) [] = ⊥
+AllBest b most ts (c ∷ cs) (a ∷ told) = Best b ts c a × AllBest b most (after most ts c) cs told
+
+-- of taps as a desk holds them every call is answered, where as many words are lent as any rows take
+unfoldable pub AlwaysAnswered : Type 0
+AlwaysAnswered = (b : Book) (most space : ℕ) (ts : List ℕ) (c : calls.Call) → GoodBook b → Sound most ts → most ≤ 256 → 16640 ≤ space → unanswered b space ts c ≡ false

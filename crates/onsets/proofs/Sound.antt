@@ -48,7 +48,7 @@ changed_sound most ts cost taken sound = sound
 changed_sound most ts read taken sound = sound
 changed_sound most ts (garbled n) taken sound = sound
 
-after_sound : (most : ℕ) (ts : List ℕ) (c : Call) → Sound most ts → Sound most (after most ts c)
+pub after_sound : (most : ℕ) (ts : List ℕ) (c : Call) → Sound most ts → Sound most (after most ts c)
 after_sound most ts c sound = grind (arith, nat_tests, changed_sound)
 
 ran_sound : (most : ℕ) (ts : List ℕ) (cs : List Call) → Sound most ts → Sound most (ran most ts cs)
@@ -56,9 +56,13 @@ unfolding ran
 ran_sound most ts [] sound = sound
 ran_sound most ts (c ∷ cs) sound = ran_sound most (after most ts c) cs (after_sound most ts c sound)
 
+pub none_sound : (most : ℕ) → Sound most []
+unfolding rises small
+none_sound most = record { few = omega arith; rising = refl; timely = refl }
+
 pub stays_sound : StaysSound
-unfolding StaysSound rises small
-stays_sound most = (record { few = omega arith; rising = refl; timely = refl }, ran_sound most)
+unfolding StaysSound
+stays_sound most = (none_sound most, ran_sound most)
 
 pub gaps_small : (ts : List ℕ) → small ts ≡ true → small (gaps ts) ≡ true
 unfolding small gaps
@@ -78,7 +82,7 @@ stored_limit ws cost = refl
 stored_limit ws read = refl
 stored_limit ws (garbled n) = refl
 
-after_limit : (ws : List ℕ) (c : Call) → limit_of (words_after ws c) ≡ limit_of ws
+pub after_limit : (ws : List ℕ) (c : Call) → limit_of (words_after ws c) ≡ limit_of ws
 after_limit ws c = grind (arith, stored_limit)
 
 pub keeps_limit : KeepsLimit

@@ -30,7 +30,7 @@ returns-in_err-gap-2 c =
 pub loop-i-preserved : goal.loop-i-preserved
 loop-i-preserved c =
     let inside : c.loop-i.i < length (gaps (taps_in c.args.words.now)) = omega (arith, c.loop-i-test.true, c.loop-i.invariant.1) in (
-      made_more (gaps (taps_in c.args.words.now)) c.loop-i.all c.loop-i.i c.in_ok-gap-2.gap c.full-kinds.result c.loop-i.invariant.0 inside (omega (arith, inside, c.loop-i.invariant)) (grind (arith, slice_get-get_or (gaps (taps_in c.args.words.now)) c.loop-i.i 0 inside)) (grind (arith, nat_tests)) c.full-kinds.ensures,
+      made_more (gaps (taps_in c.args.words.now)) c.loop-i.all c.loop-i.i _ c.loop-i.invariant.0 inside (omega (arith, inside, c.loop-i.invariant)) (grind (arith, slice_get-get_or (gaps (taps_in c.args.words.now)) c.loop-i.i 0 inside)) c.full-kinds.ensures,
       c.loop-i.invariant.1,
       c.loop-i.invariant.2,
     )

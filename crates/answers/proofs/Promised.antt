@@ -1,0 +1,47 @@
+-- What is told of the best reading, of taps as a desk holds them, is right of all readings. Assumes nothing.
+use Rattle.std.proofs.Common.{ℕ, ◌≤◌, List, [], ◌∷◌, length, Some, None, Option, refl, sym, ◌∙◌, subst, arith}
+use Rattle.std.specs.Option.{IfSome}
+use Rattle.taps.specs.Readings.{Book, least, reading}
+use Rattle.taps.specs.Calls as calls
+use Rattle.taps.specs.Calls.{gaps, turned, told, after, answer, answers}
+use Rattle.taps.specs.Promise.{GoodBook, Least, First}
+use Rattle.taps.proofs.Between.{length_gaps}
+use Rattle.taps.proofs.Whole.{least_stands, first_stands}
+use Rattle.onsets.specs.Laws.{Sound}
+use Rattle.onsets.proofs.Sound.{gaps_small, after_sound}
+use Rattle.taps.specs.Values.{call_of, answer_of}
+use Rattle.taps.specs.declared.answer.Answer.{Answer}
+use Rattle.taps.specs.declared.call.Call.{Call}
+use Rattle.answers.specs.Answered.{Answered}
+use Rattle.answers.specs.Laws.{Best, AllBest}
+
+pub best : (b : Book) (most : ℕ) (ts : List ℕ) (c : calls.Call) → GoodBook b → Sound most ts → most ≤ 256 → Best b ts c (answer b most ts c)
+unfolding turned told Least First
+best b most ts (calls.taps t) good sound few = tt
+best b most ts calls.back good sound few = tt
+best b most ts calls.cost good sound few =
+    let small = gaps_small ts sound.timely in
+    let short : length (gaps ts) ≤ 255 = omega (arith, length_gaps ts, sound.few) in
+    let told = least_stands.0 b (gaps ts) good small short in
+    (least b 0 (gaps ts), refl, (reading b 0 (gaps ts), (told.0, told.1), told.2), λ rs is. least_stands.1 b (gaps ts) rs is.0 is.1)
+best b most ts calls.read good sound few =
+    let small = gaps_small ts sound.timely in
+    let short : length (gaps ts) ≤ 255 = omega (arith, length_gaps ts, sound.few) in
+    let told = least_stands.0 b (gaps ts) good small short in (
+      reading b 0 (gaps ts),
+      refl,
+      (told.0, told.1),
+      λ qs is. (omega (arith, told.2, least_stands.1 b (gaps ts) qs is.0 is.1), λ same. first_stands b (gaps ts) qs good small short is.0 is.1 (same ∙ told.2)),
+    )
+best b most ts (calls.garbled p) good sound few = tt
+
+-- so is an answer that is the definitions'
+pub best_told : (b : Book) (space most : ℕ) (ts : List ℕ) (c : Call) (told : Option Answer) → GoodBook b → most ≤ 256 → Answered b space most ts c told → IfSome told (λ a. Sound most ts → Best b ts (call_of c) (answer_of a))
+best_told b space most ts c None good few is = tt
+best_told b space most ts c (Some a) good few is = λ sound. subst (Best b ts (call_of c)) (sym is.1) (best b most ts (call_of c) good sound few)
+
+-- and so are the answers to any list of calls
+pub all_best : (b : Book) (most : ℕ) (ts : List ℕ) (cs : List calls.Call) → GoodBook b → Sound most ts → most ≤ 256 → AllBest b most ts cs (answers b most ts cs)
+unfolding AllBest answers
+all_best b most ts [] good sound few = refl
+all_best b most ts (c ∷ cs) good sound few = (best b most ts c good sound few, all_best b most (after most ts c) cs good (after_sound most ts c sound) few)

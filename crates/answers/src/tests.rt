@@ -1,0 +1,108 @@
+// Calls answered one by one and all together, in the book of the README.
+use crate::{answer_call, answer_calls};
+use onsets::MOST_WORDS;
+use plain::MOST_ROW_WORDS;
+use std::test::Fail;
+use taps::answer::Answer;
+use taps::built_in::built_in_book;
+use taps::call::Call;
+use taps::read::{Read, Reading};
+
+// The reading told of some taps, and what it costs.
+fn told(taps: &[u32]) -> Option<(u64, Reading)> {
+    let book = &built_in_book();
+    let mut words = [0; MOST_WORDS];
+    let mut rows = [0; MOST_ROW_WORDS];
+    for tap in taps {
+        answer_call(book, &mut words, &mut rows, Call::Tap(*tap))?;
+    }
+    let Answer::Number(cost) = answer_call(book, &mut words, &mut rows, Call::Cost)? else {
+        return None;
+    };
+    let Answer::Reads(reading) = answer_call(book, &mut words, &mut rows, Call::Read)? else {
+        return None;
+    };
+    Some((cost, reading))
+}
+
+// Whether taps are read so, at this cost.
+fn reads(taps: &[u32], cost: u64, reads: &[Read]) -> bool {
+    told(taps).is_some_and(|told| told.0 == cost && told.1.as_slice() == reads)
+}
+
+fn read(kind: u8, tempo: u8) -> Read {
+    Read::new(kind, tempo).unwrap_or(Read { kind: 0, tempo: 0 })
+}
+
+// Several readings cost as little, and the first is told: the others were found by trying all.
+#[test]
+fn of_equals_the_first(rt: HostRuntime) {
+    // 24@400, 24@500
+    assert!(rt; reads(&[0, 900], 1800, &[read(2, 3)]));
+    // 12@500 12@500
+    assert!(rt; reads(&[0, 450, 900], 1200, &[read(2, 0), read(2, 0)]));
+    // 12@400 12@400, 12@500 12@500
+    assert!(rt; reads(&[0, 350, 850], 1800, &[read(1, 1), read(2, 1)]));
+    // 12@500 6@500, 12@500 12@500
+    assert!(rt; reads(&[0, 500, 850], 1800, &[read(2, 0), read(2, 0)]));
+    // 6@600 12@600, 12@400 12@400, 12@500 12@500
+    assert!(rt; reads(&[0, 350, 875], 2100, &[read(1, 1), read(2, 1)]));
+    // 12@500 6@500, 12@500 12@500, 12@600 6@600
+    assert!(rt; reads(&[0, 525, 875], 2100, &[read(2, 0), read(2, 0)]));
+    // 6@500 12@500 6@500, 6@600 12@600 3@600, 6@600 12@600 6@600
+    let reading = [read(1, 0), read(3, 0), read(1, 0)];
+    assert!(rt; reads(&[0, 225, 875, 1025], 4500, &reading));
+    // 12@500 6@500 6@500, 12@600 6@600 3@600, 12@600 6@600 6@600
+    let reading = [read(2, 0), read(1, 0), read(1, 0)];
+    assert!(rt; reads(&[0, 600, 775, 925], 4500, &reading));
+}
+
+// An answer as its first byte's case and its number, or how many gaps are read.
+fn number(answer: Answer) -> (u8, u64) {
+    match answer {
+        Answer::Refused(refusal) => (0, u64::from(refusal.number())),
+        Answer::Number(number) => (1, number),
+        Answer::Reads(reading) => (2, reading.as_slice().len() as u64),
+    }
+}
+
+#[test]
+fn calls_one_after_another(rt: HostRuntime) -> Result<(), Fail> {
+    let calls = [
+        Call::Read,
+        Call::Tap(100),
+        Call::Tap(100),
+        Call::Tap(340),
+        Call::Cost,
+        Call::Read,
+        Call::Tap(16777216),
+        Call::Back,
+        Call::Back,
+        Call::Back,
+    ];
+    let mut told = [Answer::Number(7); 11];
+    let mut words = [5; MOST_WORDS];
+    let mut rows = [0; MOST_ROW_WORDS];
+    let book = &built_in_book();
+    let Some(count) = answer_calls(book, &mut words, &mut rows, &calls, &mut told) else {
+        return Err(Fail::new("no room"));
+    };
+    assert_eq!(rt; count, 10);
+    let numbers = told.map(number);
+    assert!(rt; numbers[..6] == [(2, 0), (1, 0), (0, 4), (1, 1), (1, 720), (2, 1)]);
+    assert!(rt; numbers[6..] == [(0, 2), (1, 1), (1, 0), (0, 5), (1, 7)]);
+    Ok(())
+}
+
+#[test]
+fn calls_without_room(rt: HostRuntime) {
+    let book = &built_in_book();
+    let mut words = [5; MOST_WORDS];
+    let mut rows = [0; MOST_ROW_WORDS];
+    let mut told = [Answer::Number(7); 1];
+    let calls = [Call::Back, Call::Back];
+    assert!(rt; answer_calls(book, &mut words, &mut rows, &calls, &mut told).is_none());
+    assert!(rt; answer_calls(book, &mut words, &mut rows[1..], &calls[1..], &mut told).is_none());
+    assert!(rt; words == [5; MOST_WORDS]);
+    assert!(rt; number(told[0]) == (1, 7));
+}
