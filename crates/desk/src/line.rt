@@ -1,10 +1,13 @@
 // Calls and answers as lines of text.
-ghost use Rattle.std.specs.Prelude.{◌≡◌, Some};
-ghost use Rattle.desk.specs.Lines.{answer_text, time_in};
+ghost use Rattle.std.specs.Prelude.{◌≡◌, Some, map};
+ghost use Rattle.taps.specs.Values.{book_of, read_of};
+ghost use Rattle.desk.specs.Lines.{answer_text, note_text, reading_text, time_in};
 
 use std::fmt;
 use taps::answer::Answer;
+use taps::book::Book;
 use taps::call::Call;
+use taps::read::Read;
 
 // The call that a line is: `tap TIME`, `back`, `cost` or `read`, with blanks around its words.
 pub fn parse_call(line: &[u8]) -> Option<Call> {
@@ -39,19 +42,75 @@ fn parse_time(digits: &[u8]) -> Option<u32>
     Some(time)
 }
 
-// The line that says an answer.
+// The line that says an answer, of a desk with this book.
 #[derive(Clone, Copy)]
-pub struct Line(pub Answer);
+pub struct Line<'a> {
+    pub book: &'a Book,
+    pub answer: &'a Answer,
+}
 
-impl fmt::Display for Line {
-    ghost output = { λ line. Some (answer_text line.0) };
+impl fmt::Display for Line<'_> {
+    ghost output = { λ line. Some (answer_text (book_of line.book.now) line.answer.now) };
 
     fn fmt<W: fmt::Write>(&self, f: &mut fmt::Formatter<W>) -> fmt::Result {
-        match self.0 {
+        match *self.answer {
             Answer::Refused(refusal) => write!(f, "{refusal}"),
             Answer::Number(number) => write!(f, "{number}"),
-            // No reading of a gap is told yet.
-            Answer::Reads(_) => write!(f, "none"),
+            Answer::Reads(reading) => {
+                let notes = Notes {
+                    book: self.book,
+                    reads: reading.as_slice(),
+                };
+                write!(f, "{notes}")
+            }
         }
+    }
+}
+
+// A reading as notes, as in `12@500 6@500`; `none` where there is no gap.
+#[derive(Clone, Copy)]
+struct Notes<'a> {
+    book: &'a Book,
+    reads: &'a [Read],
+}
+
+impl fmt::Display for Notes<'_> {
+    ghost output = { λ notes. Some (reading_text (book_of notes.book.now) (map read_of notes.reads.now)) };
+
+    fn fmt<W: fmt::Write>(&self, f: &mut fmt::Formatter<W>) -> fmt::Result {
+        let book = self.book;
+        let Some((first, rest)) = self.reads.split_first() else {
+            return write!(f, "none");
+        };
+        let note = Note { book, read: *first };
+        write!(f, "{note}")?;
+        for read in rest {
+            let note = Note { book, read: *read };
+            write!(f, " {note}")?;
+        }
+        Ok(())
+    }
+}
+
+// A note by its ticks and its tempo, as in `12@500`.
+#[derive(Clone, Copy)]
+struct Note<'a> {
+    book: &'a Book,
+    read: Read,
+}
+
+impl fmt::Display for Note<'_> {
+    ghost output = { λ note. Some (note_text (book_of note.book.now) (read_of note.read)) };
+
+    fn fmt<W: fmt::Write>(&self, f: &mut fmt::Formatter<W>) -> fmt::Result {
+        let kinds = self.book.kinds.list.as_slice();
+        let tempi = self.book.tempi.list.as_slice();
+        let ticks = kinds
+            .get(usize::from(self.read.kind))
+            .map_or(0, |kind| kind.ticks);
+        let tempo = tempi
+            .get(usize::from(self.read.tempo))
+            .map_or(0, |tempo| *tempo);
+        write!(f, "{ticks}@{tempo}")
     }
 }

@@ -1,14 +1,16 @@
 // The program `desk`: answers calls, a line each, by a line each.
 //
 // The crate `answers` answers calls in bytes over words that are lent, and its contracts promise that it does so by the
-// definitions of calls; `line.rt` takes lines apart and writes answers as lines. What is here lends the words (`no_taps`)
-// and asks by bytes (`ask`), which is proved; and it reads and prints, which is run and compared.
+// definitions of calls; `line.rt` takes lines apart and writes answers as lines. What is here lends the words and asks by
+// bytes (`Memory`), which is proved; and it reads and prints, which is run and compared.
 #![tactic(auto)]
 
-ghost use Rattle.std.specs.Prelude.{◌≡◌, [], length, IfOk};
-ghost use Rattle.taps.specs.Values.{book_of, call_of};
-ghost use Rattle.onsets.specs.Onsets.{limit_of, taps_in, words_after};
-ghost use Rattle.answers.specs.Answered.{Answered, rows_after};
+ghost use Rattle.std.specs.Prelude.{◌≡◌, ◌≤◌, [], length};
+ghost use Rattle.taps.specs.Calls.{after, answer};
+ghost use Rattle.taps.specs.Values.{answer_of, book_of, call_of};
+ghost use Rattle.onsets.specs.Laws.{Sound};
+ghost use Rattle.onsets.specs.Onsets.{limit_of, taps_in};
+ghost use Rattle.answers.specs.Laws.{Best};
 
 mod line;
 
@@ -16,9 +18,8 @@ use answers::answer_bytes;
 use anyhow::{anyhow, bail};
 use books::book::decode_book;
 use line::{Line, parse_call};
-use onsets::{MOST_WORDS, clear};
+use onsets::MOST_WORDS;
 use plain::MOST_ROW_WORDS;
-use std::alloc::{AllocError, Global};
 use std::fs::File;
 use std::io::{BufRead, BufReader};
 use std::process::ExitCode;
@@ -37,7 +38,8 @@ Answers the calls of the file CALLS, or of standard input as they come, a line f
   tap TIME   a tap at TIME ms, later than the last: its number, from 0
   back       the last tap is taken back: how many are left
   cost       what the best reading costs
-  read       the first best reading, or `none` where there is no gap
+  read       the first best reading, as in `12@500 6@500`: for each gap a note's
+             ticks and a tempo; `none` where there is no gap
 
 A call that is not taken changes nothing and is answered `refused NUMBER at PLACE`:
 
@@ -46,8 +48,6 @@ A call that is not taken changes nothing and is answered `refused NUMBER at PLAC
   4  the tap is not later than the last
   5  there is no tap to take back
   6  there are 256 taps already
-
-The best reading of two taps or more is `not answered yet`; what it costs is answered.
 
 BOOK is a file with the bytes of a book. With none, gaps are read by the built-in one:
 
@@ -109,52 +109,67 @@ fn answer_file(rt: &HostRuntime, book: &Book, path: &str) -> anyhow::Result<()> 
 
 // Each answer is out before the next line is waited for.
 fn answer_lines<R: BufRead + Drop>(rt: &HostRuntime, book: &Book, input: R) -> anyhow::Result<()> {
-    let mut words = no_taps(rt.alloc())?;
-    let mut rows = vec![in rt.alloc(); 0; MOST_ROW_WORDS]?;
+    let mut memory = Memory::new();
     for (number, line) in input.split(rt.alloc(), b'\n').enumerate() {
-        answer_line(rt, book, &mut words, &mut rows, line?.as_slice(), number)?;
+        answer_line(rt, book, &mut memory, line?.as_slice(), number)?;
     }
     Ok(())
-}
-
-// Words with no taps and room for as many as a desk may hold, so that no call wants memory.
-fn no_taps(heap: Global) -> Result<Vec<u64>, AllocError>
-    ensures limit { IfOk result (λ words. limit_of words.items ≡ 256) }
-    ensures taps { IfOk result (λ words. taps_in words.items ≡ []) }
-{
-    let mut words = vec![in heap; 0; MOST_WORDS]?;
-    clear(&mut words);
-    Ok(words)
 }
 
 fn answer_line(
     rt: &HostRuntime,
     book: &Book,
-    words: &mut [u64],
-    rows: &mut [u64],
+    memory: &mut Memory,
     line: &[u8],
     number: usize,
 ) -> io::Result<()> {
     let Some(call) = parse_call(line) else {
         return println!(rt; "refused 1 at {number}");
     };
-    match ask(book, words, rows, call) {
-        Some(answer) => println!(rt; "{}", Line(answer)),
-        None => println!(rt; "not answered yet"),
-    }
+    let answer = &memory.ask(book, call);
+    println!(rt; "{}", Line { book, answer })
 }
 
-// Sends a call as bytes, and reads the bytes that it is answered by; none where it is not answered.
-fn ask(book: &Book, words: &mut [u64], rows: &mut [u64], call: Call) -> Option<Answer>
-    ensures after { words.new ≡ words_after words.old (call_of call) }
-    ensures rows { rows.new ≡ rows_after (book_of book.now) (taps_in words.old) (call_of call) rows.old }
-    ensures value { Answered (book_of book.now) (length rows.old) (limit_of words.old) (taps_in words.old) call result }
-{
-    let mut request = [0; CALL_SIZE];
-    let mut answer = [0; ANSWER_SIZE];
-    let sent = encode_call(call, &mut request)?;
-    let told = answer_bytes(book, words, rows, &request[..sent], &mut answer)?;
-    decode_answer(&answer[..told])
+// What the program lends, so that no call wants memory: words for 256 taps, and words for the rows of as many.
+#[derive(Drop)]
+struct Memory {
+    words: [u64; MOST_WORDS],
+    rows: [u64; MOST_ROW_WORDS],
+    ghost limit: { limit_of words ≡ 256 },
+    ghost room: { 16640 ≤ length rows },
+    ghost sound: { Sound (limit_of words) (taps_in words) },
+}
+
+impl Memory {
+    // No taps.
+    #[tactic(auto, using(onsets::proofs::Sound::none_sound))]
+    fn new() -> Memory
+        ensures { taps_in result.words ≡ [] }
+    {
+        Memory {
+            words: [0; MOST_WORDS],
+            rows: [0; MOST_ROW_WORDS],
+        }
+    }
+
+    // Sends a call as bytes, and reads the bytes that it is answered by.
+    fn ask(&mut self, book: &Book, call: Call) -> Answer
+        ensures taps { taps_in self.new.words ≡ after 256 (taps_in self.old.words) (call_of call) }
+        ensures value { answer_of result ≡ answer (book_of book.now) 256 (taps_in self.old.words) (call_of call) }
+        ensures best { Best (book_of book.now) (taps_in self.old.words) (call_of call) (answer_of result) }
+    {
+        let mut request = [0; CALL_SIZE];
+        let mut bytes = [0; ANSWER_SIZE];
+        let sent = encode_call(call, &mut request).unwrap();
+        let told = answer_bytes(
+            book,
+            &mut self.words,
+            &mut self.rows,
+            &request[..sent],
+            &mut bytes,
+        );
+        decode_answer(&bytes[..told.unwrap()]).unwrap()
+    }
 }
 
 #[cfg(test)]

@@ -1,25 +1,28 @@
 // The words that the program lends at the start, and answers as lines.
+use crate::Memory;
 use crate::line::Line;
-use crate::no_taps;
 use onsets::{count, limit};
 use std::test::Fail;
 use taps::answer::Answer;
+use taps::built_in::built_in_book;
 use taps::refusal::Refusal;
 
 #[test]
-fn room_for_all_taps(rt: HostRuntime) -> Result<(), Fail> {
-    let words = no_taps(rt.alloc())?;
-    assert_eq!(rt; words.len(), 257);
-    assert_eq!(rt; limit(&words), 256);
-    assert_eq!(rt; count(&words), 0);
-    Ok(())
+fn room_for_all_taps(rt: HostRuntime) {
+    let memory = Memory::new();
+    assert_eq!(rt; memory.words.len(), 257);
+    assert_eq!(rt; limit(&memory.words), 256);
+    assert_eq!(rt; count(&memory.words), 0);
 }
 
 #[test]
 fn answers_as_lines(rt: HostRuntime) -> Result<(), Fail> {
-    let refused = format!(in rt.alloc(); "{}", Line(Answer::Refused(Refusal::NotLater)))?;
+    let book = &built_in_book();
+    let answer = &Answer::Refused(Refusal::NotLater);
+    let refused = format!(in rt.alloc(); "{}", Line { book, answer })?;
     assert!(rt; refused.as_str() == "refused 4 at 0");
-    let number = format!(in rt.alloc(); "{}", Line(Answer::Number(720)))?;
+    let answer = &Answer::Number(720);
+    let number = format!(in rt.alloc(); "{}", Line { book, answer })?;
     assert!(rt; number.as_str() == "720");
     Ok(())
 }
