@@ -21,9 +21,9 @@ rows_kept b ts calls.read old = grind (arith, nat_tests, common_steps)
 rows_kept b ts (calls.garbled p) old = refl
 
 -- after a call there is as much room, and the taps stay sound
-pub held_on : (b : Book) (words rows words_new rows_new : List ℕ) (c : calls.Call) → words_new ≡ words_after words c → rows_new ≡ rows_after b (taps_in words) c rows →
+pub held_after : (b : Book) (words rows words_new rows_new : List ℕ) (c : calls.Call) → words_new ≡ words_after words c → rows_new ≡ rows_after b (taps_in words) c rows →
     Sound (limit_of words) (taps_in words) → (limit_of words_new ≡ limit_of words) × (length rows_new ≡ length rows) × Sound (limit_of words) (taps_in words_new)
-held_on b words rows words_new rows_new c stored filled sound = (
+held_after b words rows words_new rows_new c stored filled sound = (
   ap limit_of stored ∙ after_limit words c,
   ap length filled ∙ rows_kept b (taps_in words) c rows,
   subst (Sound (limit_of words)) (sym (ap taps_in stored ∙ taps_after words c)) (after_sound (limit_of words) (taps_in words) c sound),
@@ -34,7 +34,7 @@ module _ (b : Book) (start space : List ℕ) (cs : List calls.Call) where
   most = limit_of start
 
   -- all calls but `left` are answered, by `said`, and have left these words and rows
-  pub record So (words rows : List ℕ) (said : List Answer) (left : List calls.Call) : Type 0 where
+  pub record Underway (words rows : List ℕ) (said : List Answer) (left : List calls.Call) : Type 0 where
     pub limit : limit_of words ≡ most
     pub sound : Sound most (taps_in words)
     pub room : 16640 ≤ length rows
@@ -43,13 +43,13 @@ module _ (b : Book) (start space : List ℕ) (cs : List calls.Call) where
     pub then_rows : rows_ran b most (taps_in words) left rows ≡ rows_ran b most (taps_in start) cs space
 
   -- one call more is answered
-  pub so_more : (words rows : List ℕ) (said : List Answer) (c : calls.Call) (now left : List calls.Call) → So words rows said now → now ≡ c ∷ left →
+  pub underway_more : (words rows : List ℕ) (said : List Answer) (c : calls.Call) (now left : List calls.Call) → Underway words rows said now → now ≡ c ∷ left →
       (words_new rows_new : List ℕ) (a : Answer) (said_new : List Answer) → words_new ≡ words_after words c → rows_new ≡ rows_after b (taps_in words) c rows →
-      a ≡ answer b (limit_of words) (taps_in words) c → said_new ≡ said ++ a ∷ [] → So words_new rows_new said_new left
+      a ≡ answer b (limit_of words) (taps_in words) c → said_new ≡ said ++ a ∷ [] → Underway words_new rows_new said_new left
   unfolding answers words_ran rows_ran
-  so_more words rows said c now left so next words_new rows_new a said_new stored filled is more =
-      let h : So words rows said (c ∷ left) = subst (So words rows said) next so in
-      let kept = held_on b words rows words_new rows_new c stored filled (subst (λ m. Sound m (taps_in words)) (sym h.limit) h.sound) in
+  underway_more words rows said c now left so next words_new rows_new a said_new stored filled is more =
+      let h : Underway words rows said (c ∷ left) = subst (Underway words rows said) next so in
+      let kept = held_after b words rows words_new rows_new c stored filled (subst (λ m. Sound m (taps_in words)) (sym h.limit) h.sound) in
       let taps : taps_in words_new ≡ after most (taps_in words) c = ap taps_in stored ∙ taps_after words c ∙ ap (λ m. after m (taps_in words) c) h.limit in
       let same : a ≡ answer b most (taps_in words) c = is ∙ ap (λ m. answer b m (taps_in words) c) h.limit in
       record {
@@ -61,8 +61,8 @@ module _ (b : Book) (start space : List ℕ) (cs : List calls.Call) where
         then_rows = (λ j. rows_ran b most (taps j) left (filled j)) ∙ h.then_rows;
       }
 
-  pub so_all : (words rows : List ℕ) (said : List Answer) (left : List calls.Call) → left ≡ [] → So words rows said left →
+  pub underway_end : (words rows : List ℕ) (said : List Answer) (left : List calls.Call) → left ≡ [] → Underway words rows said left →
       (said ≡ answers b most (taps_in start) cs) × (words ≡ words_ran start cs) × (rows ≡ rows_ran b most (taps_in start) cs space)
   unfolding answers words_ran rows_ran
-  so_all words rows said [] e h = (sym (append-nil said) ∙ h.told, h.then_words, h.then_rows)
-  so_all words rows said (c ∷ left) e h = absurd (omega (arith, ap length e))
+  underway_end words rows said [] e h = (sym (append-nil said) ∙ h.told, h.then_words, h.then_rows)
+  underway_end words rows said (c ∷ left) e h = absurd (omega (arith, ap length e))

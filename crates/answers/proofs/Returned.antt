@@ -1,6 +1,6 @@
 -- Calls and answers that go as bytes: a call is heard as it was sent, and its answer is read as it was told. Assumes nothing.
-use Rattle.std.proofs.Common.{◌≡◌, ℕ, ◌≤◌, true, List, [], ◌∷◌, length, take, Some, None, Option, refl, ap, ◌∙◌, arith}
-use Rattle.std.specs.Option.{IsSome, is_some, option_map}
+use Rattle.std.proofs.Common.{◌≡◌, ℕ, ◌^◌, ◌<◌, ◌≤◌, true, List, [], ◌∷◌, length, take, Some, None, Ok, Err, Option, Result, refl, ap, ◌∙◌, arith}
+use Rattle.std.specs.Option.{IfSome, IsSome, is_some, option_map}
 use Rattle.std.proofs.lemmas.Bool.Decides.{nat_tests}
 use Rattle.std.proofs.lemmas.Option.{none-some}
 use Rattle.taps.specs.Readings.{Book, Read, in_book, reading}
@@ -11,6 +11,7 @@ use Rattle.taps.specs.Values.{call_of, answer_of}
 use Rattle.taps.specs.declared.answer.Answer.{Answer}
 use Rattle.taps.specs.declared.call.Call.{Call}
 use Rattle.taps.specs.declared.call.Call.TheVariants as call
+use Rattle.taps.specs.declared.refusal.Refusal.{Refusal}
 use Rattle.taps.proofs.Between.{length_gaps}
 use Rattle.taps.proofs.Plain.{least_capped}
 use Rattle.taps.proofs.Whole.{least_stands}
@@ -20,15 +21,29 @@ use Rattle.octets.proofs.Front.{read_back}
 use Rattle.wire.specs.Wire.{call_bytes, call_in, answer_bytes, answer_in, read_bytes, all_in_place}
 use Rattle.wire.specs.Laws.{CallFits, AnswerFits}
 use Rattle.wire.proofs.Returns.{calls_return, answers_return}
+use Rattle.wire.proofs.Told.{ByOne, refused_by_one}
 use Rattle.onsets.specs.Laws.{Sound}
 use Rattle.onsets.proofs.Sound.{gaps_small}
 use Rattle.answers.specs.Answered.{heard, told_of, left_of}
-use Rattle.answers.specs.Laws.{AlwaysAnswered}
+use Rattle.answers.specs.Laws.{AlwaysAnswered, BestIn}
 use Rattle.answers.proofs.Always.{always_answered}
+use Rattle.answers.proofs.Promised.{best}
 
 -- a call that is sent by its bytes is heard
 pub call_heard : (c : Call) (old new : List ℕ) (n : ℕ) → CallFits c → Some n ≡ room (call_bytes c) old → new ≡ written (call_bytes c) old → heard (call_in (take n new)) ≡ call_of c
 call_heard c old new n fits size left = ap (λ bytes. heard (call_in bytes)) (read_back (call_bytes c) old new n size left) ∙ ap heard (calls_return c fits)
+
+-- what is no call is so at one of the first places
+placed : (r : Result Call Refusal) → ByOne r → place (heard r) < 2 ^ 32
+unfolding place
+placed (Ok (call.Tap t)) h = omega arith
+placed (Ok call.Back) h = omega arith
+placed (Ok call.Cost) h = omega arith
+placed (Ok call.Read) h = omega arith
+placed (Err e) h = omega (arith, h.1)
+
+pub heard_placed : (bytes : List ℕ) → place (heard (call_in bytes)) < 2 ^ 32
+heard_placed bytes = placed (call_in bytes) (refused_by_one bytes)
 
 -- of a good book's readings each kind and each tempo has a place that a byte can tell
 reads_in_place : (b : Book) (rs : List Read) → length b.kinds ≤ 32 → length b.tempi ≤ 64 → in_book b rs ≡ true → all_in_place rs ≡ true
@@ -38,23 +53,35 @@ reads_in_place b (r ∷ rs) kinds tempi h = grind (arith, nat_tests, reads_in_pl
 
 module _ (b : Book) (space most : ℕ) (ts : List ℕ) (good : GoodBook b) (sound : Sound most ts) (few : most ≤ 256) where
   -- an answer fits its bytes
-  answer_fits : (c : Call) → AnswerFits (answer b most ts (call_of c))
+  answer_fits : (h : calls.Call) → place h < 2 ^ 32 → AnswerFits (answer b most ts h)
   unfolding turned told place Least
-  answer_fits (call.Tap t) = grind (arith, nat_tests, sound.few)
-  answer_fits call.Back = grind (arith, nat_tests, sound.few)
-  answer_fits call.Cost = grind (arith, nat_tests, least_capped b 0 (gaps ts))
-  answer_fits call.Read =
+  answer_fits (calls.taps t) at = grind (arith, nat_tests, sound.few)
+  answer_fits calls.back at = grind (arith, nat_tests, sound.few)
+  answer_fits calls.cost at = grind (arith, nat_tests, least_capped b 0 (gaps ts))
+  answer_fits calls.read at =
       let short : length (gaps ts) ≤ 255 = omega (arith, length_gaps ts, sound.few) in
       let is = least_stands.0 b (gaps ts) good (gaps_small ts sound.timely) short in
       (omega (arith, is.0, short), reads_in_place b (reading b 0 (gaps ts)) good.1 good.4 is.1)
+  answer_fits (calls.garbled p) at = (refl, at)
 
   -- and takes 513 of them at most
   answer_short : (c : Call) → length (answer_bytes (answer b most ts (call_of c))) ≤ 513
-  unfolding turned told place Least
+  unfolding turned told place
   answer_short (call.Tap t) = grind (arith, nat_tests)
   answer_short call.Back = grind (arith, nat_tests)
   answer_short call.Cost = grind (arith, nat_tests)
-  answer_short call.Read = let fits = answer_fits call.Read in omega (arith, fits.0, length_joined read_bytes 2 (λ _. refl) (reading b 0 (gaps ts)))
+  answer_short call.Read = let fits = answer_fits calls.read (omega arith) in omega (arith, fits.0, length_joined read_bytes 2 (λ _. refl) (reading b 0 (gaps ts)))
+
+  -- the bytes that are told are read as an answer that is right of all readings
+  bytes_best : (h : calls.Call) (old new : List ℕ) (n : ℕ) → place h < 2 ^ 32 → Some n ≡ told_of b space most ts h old → new ≡ left_of b space most ts h old → BestIn b ts h (take n new)
+  unfolding told_of left_of
+  bytes_best h old new n at is left =
+      let roomy : Some n ≡ room (answer_bytes (answer b most ts h)) old = grind (arith, nat_tests) in
+      let all : new ≡ written (answer_bytes (answer b most ts h)) old = grind (arith, nat_tests) in (
+        answer b most ts h,
+        ap answer_in (read_back (answer_bytes (answer b most ts h)) old new n roomy all) ∙ answers_return (answer b most ts h) (answer_fits h at),
+        best b most ts h good sound few,
+      )
 
   -- where there is room for any answer and for any rows, the answer to a call that is sent by its bytes is what the bytes that are told are read as
   pub told_back : (c : Call) (request_old request : List ℕ) (sent : ℕ) (old new : List ℕ) (told : Option ℕ) → CallFits c → Some sent ≡ room (call_bytes c) request_old →
@@ -73,8 +100,14 @@ module _ (b : Book) (space most : ℕ) (ts : List ℕ) (good : GoodBook b) (soun
         ap is_some known,
         λ n some.
             let same : n ≡ length bytes = cc in
-            ap answer_in (ap (λ k. take k new) same ∙ read_back bytes old new (length bytes) roomy (left ∙ ap (λ x. left_of b space most ts x old) is_heard ∙ all)) ∙ answers_return (answer b most ts (call_of c)) (answer_fits c),
+            ap answer_in (ap (λ k. take k new) same ∙ read_back bytes old new (length bytes) roomy (left ∙ ap (λ x. left_of b space most ts x old) is_heard ∙ all)) ∙ answers_return (answer b most ts (call_of c)) (answer_fits (call_of c) (placed (Ok c) tt)),
       )
+
+-- the same where something is told at all, of taps as a desk holds them
+pub bytes_best_where_told : (b : Book) (space most : ℕ) (ts : List ℕ) (h : calls.Call) (old new : List ℕ) (told : Option ℕ) → GoodBook b → most ≤ 256 → place h < 2 ^ 32 →
+    told ≡ told_of b space most ts h old → new ≡ left_of b space most ts h old → IfSome told (λ n. Sound most ts → BestIn b ts h (take n new))
+bytes_best_where_told b space most ts h old new None good few at is left = tt
+bytes_best_where_told b space most ts h old new (Some n) good few at is left = λ sound. bytes_best b space most ts good sound few h old new n at is left
 
 -- what is read as an answer is that answer
 pub read_some : (r : Option Answer) (a : calls.Answer) → option_map answer_of r ≡ Some a → IsSome r

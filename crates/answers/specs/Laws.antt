@@ -1,11 +1,12 @@
 -- What holds of answers. The last is a statement: a type, whose proof is owed by the function whose contract names it. Assumes nothing.
 --
 -- Best: what an answer about the best reading says of all readings.
-use Rattle.std.specs.Prelude.{◌≡◌, ℕ, ◌≤◌, true, false, List, [], ◌∷◌, length}
+use Rattle.std.specs.Prelude.{◌≡◌, ℕ, ◌≤◌, true, false, List, [], ◌∷◌, length, Some}
 use Rattle.taps.specs.Readings.{Book, Read, all_cost, in_book}
 use Rattle.taps.specs.Calls as calls
 use Rattle.taps.specs.Calls.{Answer, number, reads, gaps, after}
 use Rattle.taps.specs.Promise.{GoodBook, comes_first}
+use Rattle.wire.specs.Wire.{answer_in}
 use Rattle.onsets.specs.Laws.{Sound}
 use Rattle.answers.specs.Answered.{unanswered}
 
@@ -24,6 +25,7 @@ FirstBest b ts a =
     (rs : List Read) × (a ≡ reads rs) × IsReading b ts rs
     × ((qs : List Read) → IsReading b ts qs → (all_cost b 0 (gaps ts) rs ≤ all_cost b 0 (gaps ts) qs) × (all_cost b 0 (gaps ts) qs ≡ all_cost b 0 (gaps ts) rs → comes_first rs qs ≡ true))
 
+-- a tap or taking one back says nothing of readings, nor does what is no call
 abbrev pub Best : Book → List ℕ → calls.Call → Answer → Type 0
 Best b ts (calls.taps t) a = Unit {0}
 Best b ts calls.back a = Unit {0}
@@ -31,7 +33,11 @@ Best b ts calls.cost a = BestCost b ts a
 Best b ts calls.read a = FirstBest b ts a
 Best b ts (calls.garbled p) a = Unit {0}
 
--- the same of the answers to a list of calls, one after another
+-- bytes are read as such an answer
+abbrev pub BestIn : Book → List ℕ → calls.Call → List ℕ → Type 0
+BestIn b ts c bytes = (a : Answer) × (answer_in bytes ≡ Some a) × Best b ts c a
+
+-- each answer to a list of calls, one after another, is such an answer
 unfoldable pub AllBest : Book → ℕ → List ℕ → List calls.Call → List Answer → Type 0
 AllBest b most ts [] told = told ≡ []
 AllBest b most ts (c ∷ cs) [] = ⊥

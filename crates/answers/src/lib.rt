@@ -7,7 +7,7 @@
 #![tactic(auto)]
 
 ghost use Rattle.std.specs.Prelude.{◌≡◌, ◌≤◌, true, false, ◌&&◌, [], length, map, take, drop, replicate, Some, None, nat_le, IfSome, MatchOption};
-ghost use Rattle.taps.specs.Calls.{after, answer, answers, gaps};
+ghost use Rattle.taps.specs.Calls.{after, answers, gaps};
 ghost use Rattle.taps.specs.Items.{items};
 ghost use Rattle.taps.specs.Readings.{least, pick, reading};
 ghost use Rattle.taps.specs.Values.{answer_of, book_of, call_of, reading_of};
@@ -16,7 +16,7 @@ ghost use Rattle.onsets.specs.Onsets.{limit_of, taps_in, words_after};
 ghost use Rattle.plain.specs.Restricted.{Free, gaps_of};
 ghost use Rattle.wire.specs.Wire.{call_in};
 ghost use Rattle.answers.specs.Answered.{Answered, heard, left_of, rows_after, rows_fit, rows_left, rows_ran, short, told_of};
-ghost use Rattle.answers.specs.Laws.{AllBest, AlwaysAnswered, Best};
+ghost use Rattle.answers.specs.Laws.{AllBest, AlwaysAnswered, Best, BestIn};
 
 use bitset::BitSet;
 use model::Step;
@@ -47,7 +47,7 @@ pub fn answer_bytes(
     ensures value { result ≡ told_of (book_of book.now) (length rows.old) (limit_of words.old) (taps_in words.old) (heard (call_in request.now)) out.old }
     ensures left { out.new ≡ left_of (book_of book.now) (length rows.old) (limit_of words.old) (taps_in words.old) (heard (call_in request.now)) out.old }
     ensures bound { IfSome result (λ n. n ≤ length out.old) }
-    ensures best { Sound (limit_of words.old) (taps_in words.old) → Best (book_of book.now) (taps_in words.old) (heard (call_in request.now)) (answer (book_of book.now) (limit_of words.old) (taps_in words.old) (heard (call_in request.now))) }
+    ensures best { IfSome result (λ n. Sound (limit_of words.old) (taps_in words.old) → BestIn (book_of book.now) (taps_in words.old) (heard (call_in request.now)) (take n out.new)) }
 {
     let answer = match decode_call(request) {
         Ok(call) => answer_call(book, words, rows, call)?,

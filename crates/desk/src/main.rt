@@ -5,11 +5,12 @@
 // bytes (`Memory`), which is proved; and it reads and prints, which is run and compared.
 #![tactic(auto)]
 
-ghost use Rattle.std.specs.Prelude.{◌≡◌, ◌≤◌, [], length};
+ghost use Rattle.std.specs.Prelude.{◌≡◌, ◌≤◌, [], length, replicate};
 ghost use Rattle.taps.specs.Calls.{after, answer};
 ghost use Rattle.taps.specs.Values.{answer_of, book_of, call_of};
 ghost use Rattle.onsets.specs.Laws.{Sound};
-ghost use Rattle.onsets.specs.Onsets.{limit_of, taps_in};
+ghost use Rattle.onsets.specs.Onsets.{limit_of, taps_in, words_after};
+ghost use Rattle.answers.specs.Answered.{rows_after};
 ghost use Rattle.answers.specs.Laws.{Best};
 
 mod line;
@@ -144,7 +145,9 @@ impl Memory {
     // No taps.
     #[tactic(auto, using(onsets::proofs::Sound::none_sound))]
     fn new() -> Memory
-        ensures { taps_in result.words ≡ [] }
+        ensures words { result.words ≡ replicate 257 0 }
+        ensures rows { result.rows ≡ replicate 16640 0 }
+        ensures taps { taps_in result.words ≡ [] }
     {
         Memory {
             words: [0; MOST_WORDS],
@@ -154,7 +157,9 @@ impl Memory {
 
     // Sends a call as bytes, and reads the bytes that it is answered by.
     fn ask(&mut self, book: &Book, call: Call) -> Answer
+        ensures after { self.new.words ≡ words_after self.old.words (call_of call) }
         ensures taps { taps_in self.new.words ≡ after 256 (taps_in self.old.words) (call_of call) }
+        ensures rows { self.new.rows ≡ rows_after (book_of book.now) (taps_in self.old.words) (call_of call) self.old.rows }
         ensures value { answer_of result ≡ answer (book_of book.now) 256 (taps_in self.old.words) (call_of call) }
         ensures best { Best (book_of book.now) (taps_in self.old.words) (call_of call) (answer_of result) }
     {

@@ -35,6 +35,11 @@ pub plus_some : (x : ℕ) (n : Option ℕ) (v : ℕ) → plus x n ≡ Some v →
 plus_some x None v e = absurd (none-some v e)
 plus_some x (Some n) v e = (n, refl, cc)
 
+-- where there is no cost with x more, there is none
+pub plus_none : (x : ℕ) (n : Option ℕ) → NoMore None (plus x n) → n ≡ None
+plus_none x None h = refl
+plus_none x (Some n) h = absurd h
+
 pub no_more_plus : (x : ℕ) (m n : Option ℕ) → x ≡ 0 → NoMore m (plus x n) → NoMore m n
 no_more_plus x m None e h = tt
 no_more_plus x None (Some n) e h = h
@@ -186,6 +191,15 @@ first_is t xs (Some x) e =
     let f = first_found t xs x from.0 from.1 in
     let same : Some f.0 ≡ Some x = sym f.1.is ∙ e in
     subst (First t xs) (cc) f.1
+
+-- where every member leads to nothing, so does the first that passes
+pub first_to_none : {A B : Type 0} (t : A → Bool) (xs : List A) (k : A → Option B) → ((x : A) → Among x xs → k x ≡ None) → and_then (first t xs) k ≡ None
+first_to_none t [] k none = refl
+first_to_none t (x ∷ xs) k none =
+    elim (cases_Bool (t x)) [
+      | inl p ↦ ap (λ o. and_then o k) (cond-true (t x) (Some x) (first t xs) p) ∙ none x (inl refl)
+      | inr p ↦ ap (λ o. and_then o k) (cond-false (t x) (Some x) (first t xs) p) ∙ first_to_none t xs k (λ y a. none y (inr a))
+    ]
 
 -- two tests that say the same of each member
 pub first_same : {A : Type 0} (t u : A → Bool) (xs : List A) → ((x : A) → Among x xs → t x ≡ u x) → first t xs ≡ first u xs

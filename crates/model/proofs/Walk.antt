@@ -1,14 +1,13 @@
 -- The walk over the rows, step by step, and that it reads what the general reader tells. Assumes nothing.
-use Rattle.std.proofs.Common.{◌≡◌, ℕ, ◌+◌, ◌<◌, ◌≤◌, min, Bool, List, [], ◌∷◌, ◌++◌, append-nil, append_assoc, length, take, drop, get_or, Some, None, Option, sym, refl, ap, ◌∙◌, subst, inl, inr, arith}
+use Rattle.std.proofs.Common.{◌≡◌, ℕ, ◌+◌, ◌<◌, ◌≤◌, min, List, [], ◌∷◌, ◌++◌, append-nil, append_assoc, length, take, drop, get_or, Some, None, Option, sym, refl, ap, ◌∙◌, subst, arith}
 use Rattle.std.specs.Option.{option_map}
-use Rattle.std.proofs.lemmas.Bool.{cases_Bool, cond-true, cond-false}
 use Rattle.std.proofs.lemmas.Option.{none-some}
 use Rattle.std.proofs.lemmas.Iterator.Adapters.{option_map_id}
 use Rattle.std.proofs.lemmas.List.{drop_more}
-use Rattle.least.specs.Minima.{NoMore, capped, plus, over, first, and_then, cheapest, Among}
+use Rattle.least.specs.Minima.{NoMore, capped, plus, over, and_then, cheapest, Among}
 use Rattle.least.specs.Readers.{Reader, States, suffix, told}
 use Rattle.least.proofs.Capped.{capped_some, capped_first}
-use Rattle.least.proofs.Minimal.{plus_some, over_under, cheapest_found}
+use Rattle.least.proofs.Minimal.{plus_some, plus_none, over_under, first_to_none, cheapest_found}
 use Rattle.taps.specs.Readings.{too_much}
 use Rattle.model.specs.Rows.{states_below, suffix_row, suffix_rows}
 use Rattle.model.specs.Walk.{first_met, walked}
@@ -16,20 +15,6 @@ use Rattle.model.specs.Laws.{Walked}
 use Rattle.model.proofs.Numbers.{row_at}
 use Rattle.model.proofs.Steps.{among_below, below_among}
 use Rattle.model.proofs.Tables.{rows_first, rows_next}
-
--- where every member leads to nothing, so does the first that passes
-none_first : {A B : Type 0} (t : A → Bool) (xs : List A) (k : A → Option B) → ((x : A) → Among x xs → k x ≡ None) → and_then (first t xs) k ≡ None
-none_first t [] k none = refl
-none_first t (x ∷ xs) k none =
-    elim (cases_Bool (t x)) [
-      | inl p ↦ ap (λ o. and_then o k) (cond-true (t x) (Some x) (first t xs) p) ∙ none x (inl refl)
-      | inr p ↦ ap (λ o. and_then o k) (cond-false (t x) (Some x) (first t xs) p) ∙ none_first t xs k (λ y a. none y (inr a))
-    ]
-
--- where there is no cost with w more, there is none
-none_left : (w : ℕ) (o : Option ℕ) → NoMore None (plus w o) → o ≡ None
-none_left w None h = refl
-none_left w (Some v) h = absurd h
 
 -- a choice is put before what follows, or behind what was
 prepended : {C : Type 0} (cs : List C) (c : C) (o : Option (List C)) → option_map (λ ds. (cs ++ c ∷ []) ++ ds) o ≡ option_map (λ ds. cs ++ ds) (option_map (λ ds. c ∷ ds) o)
@@ -75,10 +60,10 @@ module _ {G C : Type 0} (r : Reader G ℕ C) (st : States r) (n : ℕ) (below : 
   unfolding walked suffix
   walked_none s [] e = absurd (none-some 0 (sym e))
   walked_none s (g ∷ gs) e =
-      none_first _ (r.choices s g) _
+      first_to_none _ (r.choices s g) _
       (λ c a.
       let under = over_under (λ x. plus (r.cost s g x) (after s g gs x)) c (r.choices s g) a in
-      ap (option_map (λ cs. c ∷ cs)) (walked_none (r.next s g c) gs (none_left (r.cost s g c) (after s g gs c) (subst (λ o. NoMore o (plus (r.cost s g c) (after s g gs c))) e under))))
+      ap (option_map (λ cs. c ∷ cs)) (walked_none (r.next s g c) gs (plus_none (r.cost s g c) (after s g gs c) (subst (λ o. NoMore o (plus (r.cost s g c) (after s g gs c))) e under))))
 
 module _ {G C : Type 0} (r : Reader G ℕ C) (n : ℕ) where
   pub reached_start : (start : ℕ) (gs : List G) (rows : List ℕ) → start < n → rows ≡ suffix_rows r n gs → Reached r n start gs gs rows [] start

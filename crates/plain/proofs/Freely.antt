@@ -69,6 +69,9 @@ module _ (b : Book) (few : length b.kinds ≤ 32) where
       let rest = free_rows gs (All-tail (λ h. (k : ℕ) → k < 32 → member h.kinds.bits k ≡ true) g gs free) in
       λ i. free_row (g ∷ gs) free i ++ rest i
 
+  pub free_slice : (steps slice : List Step) → slice ≡ steps → Free steps → suffix_rows (restricted b) (state_count b) slice ≡ rows b (gaps_of steps)
+  free_slice steps slice same free = rw same (free_rows steps free)
+
   -- there is one start, which costs nothing
   one_start : (m : Option ℕ) → lower (plus 0 m) None ≡ m
   one_start None = refl

@@ -8,7 +8,7 @@ use Rattle.taps.proofs.Good.{book_is_good}
 use Rattle.onsets.specs.Onsets.{limit_of, taps_in}
 use Rattle.answers.specs.Laws.{AlwaysAnswered}
 use Rattle.answers.proofs.Always.{always_answered}
-use Rattle.answers.proofs.Each.{so_more, so_all}
+use Rattle.answers.proofs.Each.{underway_more, underway_end}
 use Rattle.answers.proofs.answer_each.Goals as goal
 
 pub unreachable-requires : goal.unreachable-requires
@@ -24,14 +24,14 @@ loop-i-preserved c =
     let said =
     ap (map answer_of) (take-set_at c.loop-i.told c.loop-i.i (c.loop-i.i + 1) c.in-Some.answer refl size) ∙ map-append answer_of (take c.loop-i.i c.loop-i.told) (c.in-Some.answer ∷ []) in
     record {
-      so = so_more _ _ _ _ _ _ _ _ _ _ c.loop-i.invariant.so (ap (map call_of) (drop_more c.args.calls.now c.loop-i.i (Tap 0) c.loop-i-test.true)) _ _ _ _ c.answer_call.ensures.after c.answer_call.ensures.rows c.in-Some.ensures.value.1 said;
+      so = underway_more _ _ _ _ _ _ _ _ _ _ c.loop-i.invariant.so (ap (map call_of) (drop_more c.args.calls.now c.loop-i.i (Tap 0) c.loop-i-test.true)) _ _ _ _ c.answer_call.ensures.after c.answer_call.ensures.rows c.in-Some.ensures.value.1 said;
       size = length-set c.loop-i.told c.loop-i.i c.in-Some.answer ∙ c.loop-i.invariant.size;
     }
 
 pub returns : goal.returns
 returns c =
     let all = drop_all c.loop-i.i c.args.calls.now c.loop-i-test.false in
-    let so = so_all _ _ _ _ _ _ _ _ (ap (map call_of) all) c.loop-i.invariant.so in
+    let so = underway_end _ _ _ _ _ _ _ _ (ap (map call_of) all) c.loop-i.invariant.so in
     record {
       told = ap (map answer_of) (sym (take_all c.loop-i.i c.loop-i.told (omega (arith, c.loop-i.invariant.size, c.loop-i-test.false)))) ∙ so.0;
       words = so.1;

@@ -4,9 +4,11 @@ use Rattle.taps.specs.Calls.{after, answer}
 use Rattle.taps.specs.Values.{answer_of, book_of, call_of}
 use Rattle.taps.proofs.Good.{book_is_good}
 use Rattle.onsets.specs.Laws.{Sound}
-use Rattle.onsets.specs.Onsets.{limit_of, taps_in}
+use Rattle.onsets.specs.Onsets.{limit_of, taps_in, words_after}
+use Rattle.onsets.proofs.Words.{stands}
+use Rattle.answers.specs.Answered.{rows_after}
 use Rattle.answers.specs.Laws.{Best}
-use Rattle.answers.proofs.Each.{held_on}
+use Rattle.answers.proofs.Each.{held_after}
 use Rattle.answers.proofs.Promised.{best}
 use Rattle.answers.proofs.Returned.{call_heard, told_back, read_some}
 use Rattle.desk.proofs.Memory.ask.Goals as goal
@@ -14,7 +16,7 @@ use Rattle.desk.proofs.Memory.ask.Goals as goal
 pub invariant_of-self : goal.invariant_of-self
 invariant_of-self c =
     let now = c.args.self.now in
-    let kept = held_on _ _ _ _ _ _ c.answer_bytes-told.ensures.after c.answer_bytes-told.ensures.rows now.sound in
+    let kept = held_after _ _ _ _ _ _ c.answer_bytes-told.ensures.after c.answer_bytes-told.ensures.rows now.sound in
     record { limit = kept.0 ∙ now.limit; room = omega (arith, kept.1, now.room); sound = subst (λ m. Sound m (taps_in c.answer_bytes-told.new.words)) (sym kept.0) kept.2 }
 
 pub unwrap-requires : goal.unwrap-requires
@@ -30,12 +32,22 @@ unwrap-requires-2 c =
     let told = told_back _ _ _ _ (book_is_good c.args.book.now) now.sound (omega arith) c.args.call (replicate 5 0) _ _ _ _ _ (search rules) sent c.encode_call.ensures.after now.room (omega arith) c.answer_bytes-told.ensures.value c.answer_bytes-told.ensures.left in
     read_some _ _ (c.decode_answer.ensures ∙ told.1 _ c.unwrap.ensures)
 
+pub returns-clause-after : goal.returns-clause-after
+returns-clause-after c =
+    let sent = sym c.unwrap-sent.ensures ∙ c.encode_call.ensures.value in
+    c.answer_bytes-told.ensures.after ∙ ap (words_after c.args.self.now.words) (call_heard c.args.call (replicate 5 0) _ _ (search rules) sent c.encode_call.ensures.after)
+
 pub returns-clause-taps : goal.returns-clause-taps
 returns-clause-taps c =
     let now = c.args.self.now in
+    stands now.words _ (call_of c.args.call) (returns-clause-after c) ∙ ap (λ m. after m (taps_in now.words) (call_of c.args.call)) now.limit
+
+pub returns-clause-rows : goal.returns-clause-rows
+returns-clause-rows c =
+    let now = c.args.self.now in
     let sent = sym c.unwrap-sent.ensures ∙ c.encode_call.ensures.value in
-    let heard = call_heard c.args.call (replicate 5 0) _ _ (search rules) sent c.encode_call.ensures.after in
-    c.answer_bytes-told.ensures.taps ∙ ap (after (limit_of now.words) (taps_in now.words)) heard ∙ ap (λ m. after m (taps_in now.words) (call_of c.args.call)) now.limit
+    c.answer_bytes-told.ensures.rows
+    ∙ ap (λ h. rows_after (book_of c.args.book.now) (taps_in now.words) h now.rows) (call_heard c.args.call (replicate 5 0) _ _ (search rules) sent c.encode_call.ensures.after)
 
 pub returns-clause-value : goal.returns-clause-value
 returns-clause-value c =
