@@ -2,7 +2,7 @@
 use Rattle.std.proofs.Common.{◌≡◌, ℕ, ◌+◌, ◌<◌, ◌≤◌, min, eqb, List, [], ◌∷◌, Some, None, Option, sym, refl, ap, ◌∙◌, inl, inr, arith}
 use Rattle.std.proofs.lemmas.Bool.{cases_lt}
 use Rattle.std.proofs.lemmas.Bool.Decides.{nat_tests}
-use Rattle.least.specs.Minima.{Least, NoMore, lower, plus, capped, hits, over, first, and_then, cheapest, Among}
+use Rattle.least.specs.Minima.{Least, NoMore, lower, plus, both, capped, hits, over, first, and_then, cheapest, Among}
 use Rattle.least.proofs.Minimal.{Within, first_same, over_numbers}
 use Rattle.least.proofs.Folds.{LeastFrom}
 
@@ -31,6 +31,12 @@ capped_over most f h (x ∷ xs) same =
 pub capped_again : (most w : ℕ) (n : Option ℕ) → capped most (Some (w + capped most n)) ≡ capped most (plus w n)
 capped_again most w None = omega arith
 capped_again most w (Some n) = omega arith
+
+-- two capped costs together are, under the cap, both costs together
+pub capped_both : (most : ℕ) (m n : Option ℕ) → capped most (Some (capped most m + capped most n)) ≡ capped most (both m n)
+capped_both most None n = omega arith
+capped_both most (Some m) None = omega arith
+capped_both most (Some m) (Some n) = omega arith
 
 pub capped_within : (most : ℕ) (m : Option ℕ) (v : ℕ) → Within m v → capped most m ≤ v
 capped_within most m v w = rw w.1 (omega (arith, w.2))

@@ -34,7 +34,7 @@ module _ {G S C : Type 0} (r : Reader G S C) where
     abbrev pub BeginCost : S → ℕ → Type 0
     BeginCost t v = (s : S) × Among s r.starts × ((st.same s t ≡ true) × (v ≡ r.entry s))
 
-    pub begin_least : (t : S) → Least (BeginCost t) (begin r st t)
+    begin_least : (t : S) → Least (BeginCost t) (begin r st t)
     begin_least t =
         over_least _ r.starts (λ s v. (st.same s t ≡ true) × (v ≡ r.entry s))
         (λ s a. cond_least (λ v. v ≡ r.entry s) (st.same s t) (Some (r.entry s)) (refl, λ v e. omega arith))

@@ -3,8 +3,8 @@
 -- two, four, eight: a number in so many bytes, the low one first. number: the number that bytes are, the low one first.
 -- chunks: the front of a list of bytes cut into pieces of one width, each read by itself.
 -- Bytes: that the numbers of a list are bytes.
--- room, written: what is answered, and left, where bytes or other numbers are written into a slice that is lent.
-use Rattle.std.specs.Prelude.{ℕ, zero, suc, ◌+◌, ◌*◌, ◌/◌, ◌%◌, ◌<◌, List, [], ◌∷◌, ◌++◌, length, take, drop, Some, None, Option, nat_le, slice_index}
+-- room, written: what is answered, and left, where bytes or other numbers are written into a slice that is lent. StartsWith: a slice begins with some numbers.
+use Rattle.std.specs.Prelude.{◌≡◌, ℕ, zero, suc, ◌+◌, ◌*◌, ◌/◌, ◌%◌, ◌<◌, List, [], ◌∷◌, ◌++◌, length, take, drop, Some, None, Option, nat_le, slice_index}
 use Rattle.taps.specs.Readings.{pick}
 
 abbrev pub two : ℕ → List ℕ
@@ -35,3 +35,6 @@ room bytes out = pick (nat_le (length bytes) (length out)) (Some (length bytes))
 -- all at the front of the slice and the rest as it was, or the whole as it was
 abbrev pub written : List ℕ → List ℕ → List ℕ
 written bytes out = pick (nat_le (length bytes) (length out)) (bytes ++ drop (length bytes) out) out
+
+abbrev pub StartsWith : List ℕ → List ℕ → Type 0
+StartsWith front out = take (length front) out ≡ front

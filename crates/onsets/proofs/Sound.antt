@@ -17,7 +17,7 @@ rises_more [] t rising later = refl
 rises_more (u ∷ []) t rising later = grind (arith, nat_tests)
 rises_more (u ∷ v ∷ vs) t rising later = grind (arith, nat_tests, rises_more (v ∷ vs) t)
 
-small_more : (ts : List ℕ) (t : ℕ) → small ts ≡ true → t < 16777216 → small (ts ++ t ∷ []) ≡ true
+pub small_more : (ts : List ℕ) (t : ℕ) → small ts ≡ true → t < 16777216 → small (ts ++ t ∷ []) ≡ true
 unfolding small
 small_more [] t below here = grind (arith, nat_tests)
 small_more (u ∷ us) t below here = grind (arith, nat_tests, small_more us t)

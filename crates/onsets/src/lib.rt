@@ -3,7 +3,7 @@
 // The first word has how many taps are held, and those after it their times in ms. The limit is how many words there are
 // behind the first, and never above 256. `specs/Onsets.antt` says which taps words stand for (`taps_in`) and what a call
 // leaves in every word (`words_after`). Every slice of words stands for some taps, so nothing is asked of the words that
-// are lent: whatever they hold, each function answers by the taps that they stand for. Read `append` first.
+// are lent: whatever they hold, each function answers by the taps that they stand for. Read `check` first, and `append`.
 #![tactic(auto)]
 
 ghost use Rattle.std.specs.Prelude.{◌≡◌, ◌+◌, ◌-◌, ◌<◌, ◌≤◌, true, false, [], length, replicate, MatchOption, slice_index};
@@ -27,23 +27,31 @@ pub fn clear(words: &mut [u64])
     words.fill(0);
 }
 
-// Adds a tap, and answers its number, from 0.
+// The number that a tap at this time would have, from 0, or why it is not taken.
 #[tactic(auto, unfolding(taps::specs::Calls::turned))]
-pub fn append(words: &mut [u64], time: u32) -> Result<usize, Refusal>
-    ensures after { words.new ≡ words_after words.old (taps time) }
-    ensures taps { taps_in words.new ≡ after (limit_of words.old) (taps_in words.old) (taps time) }
-    ensures value { Taken (limit_of words.old) (taps_in words.old) (taps time) (length (taps_in words.old)) result }
+pub fn check(words: &[u64], time: u32) -> Result<usize, Refusal>
+    ensures { Taken (limit_of words.now) (taps_in words.now) (taps time) (length (taps_in words.now)) result }
 {
     let Some(time) = in_time(time) else {
         return Err(Refusal::TooLate);
     };
-    let Some(time) = after_last(words, time) else {
+    let Some(_) = after_last(words, time) else {
         return Err(Refusal::NotLater);
     };
     let Some(number) = next_number(words) else {
         return Err(Refusal::TooManyTaps);
     };
-    words[number + 1] = time;
+    Ok(number)
+}
+
+// Adds a tap, and answers its number, from 0.
+pub fn append(words: &mut [u64], time: u32) -> Result<usize, Refusal>
+    ensures after { words.new ≡ words_after words.old (taps time) }
+    ensures taps { taps_in words.new ≡ after (limit_of words.old) (taps_in words.old) (taps time) }
+    ensures value { Taken (limit_of words.old) (taps_in words.old) (taps time) (length (taps_in words.old)) result }
+{
+    let number = check(words, time)?;
+    words[number + 1] = u64::from(time);
     words[0] = number as u64 + 1;
     Ok(number)
 }

@@ -1,6 +1,6 @@
 -- The gaps between taps, by their places. Assumes nothing.
-use Rattle.std.proofs.Common.{◌≡◌, ℕ, zero, suc, ◌-◌, ◌<◌, List, [], ◌∷◌, length, get_or, refl, arith}
-use Rattle.taps.specs.Calls.{gaps}
+use Rattle.std.proofs.Common.{◌≡◌, ℕ, zero, suc, ◌-◌, ◌<◌, List, [], ◌∷◌, ◌++◌, length, get_or, refl, ap, arith}
+use Rattle.taps.specs.Calls.{gaps, last_of, but_last}
 
 -- one less than there are taps
 pub length_gaps : (ts : List ℕ) → length (gaps ts) ≡ length ts - 1
@@ -15,3 +15,14 @@ gap_at [] i inside = absurd (omega arith)
 gap_at (t ∷ []) i inside = absurd (omega arith)
 gap_at (t ∷ u ∷ us) zero inside = refl
 gap_at (t ∷ u ∷ us) (suc i) inside = gap_at (u ∷ us) i (omega arith)
+
+-- a tap more is a gap more, and the last tap taken back is a gap less
+pub gaps_more : (t : ℕ) (ts : List ℕ) (u : ℕ) → gaps ((t ∷ ts) ++ u ∷ []) ≡ gaps (t ∷ ts) ++ (u - last_of t ts) ∷ []
+unfolding gaps last_of
+gaps_more t [] u = refl
+gaps_more t (v ∷ vs) u = ap (λ gs. (v - t) ∷ gs) (gaps_more v vs u)
+
+pub gaps_fewer : (t u : ℕ) (us : List ℕ) → (g : ℕ) × (gaps (t ∷ u ∷ us) ≡ gaps (but_last (t ∷ u ∷ us)) ++ g ∷ [])
+unfolding gaps but_last
+gaps_fewer t u [] = (u - t, refl)
+gaps_fewer t u (v ∷ vs) = let rest = gaps_fewer u v vs in (rest.0, ap (λ gs. (u - t) ∷ gs) rest.1)

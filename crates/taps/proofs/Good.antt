@@ -52,7 +52,7 @@ good_each [] = refl
 good_each (k ∷ ks) =
     and_from _ _ (and_from _ _ (and_from _ _ (le-leb 1 k.ticks k.some) (le-leb k.ticks 96 k.short)) (lt-ltb k.weight 16777216 k.light)) (good_each ks)
 
-pub kind_count : (b : Book) → length (kinds_of b.kinds) ≡ b.kinds.list.count
+kind_count : (b : Book) → length (kinds_of b.kinds) ≡ b.kinds.list.count
 kind_count b = length-map (items b.kinds.list) kind_of ∙ length-take-le _ b.kinds.list.all (omega (arith, b.kinds.list.whole, b.kinds.list.few))
 
 tempo_count : (b : Book) → length (tempi_of b.tempi) ≡ b.tempi.list.count
