@@ -1,5 +1,6 @@
 mod Steps
+pub mod Kept
 pub mod Returned
-mod Always
+pub mod Always
 pub mod Promised
 pub mod Each

@@ -12,7 +12,8 @@ use Rattle.onsets.proofs.Sound.{gaps_small, after_sound}
 use Rattle.taps.specs.Values.{call_of, answer_of}
 use Rattle.taps.specs.declared.answer.Answer.{Answer}
 use Rattle.taps.specs.declared.call.Call.{Call}
-use Rattle.answers.specs.Answered.{Answered}
+use Rattle.onsets.specs.Onsets.{limit_of, taps_in}
+use Rattle.answers.specs.Answered.{Answerable, Answered, Held}
 use Rattle.answers.specs.Laws.{Best, AllBest}
 
 pub best : (b : Book) (most : ℕ) (ts : List ℕ) (c : calls.Call) → GoodBook b → Sound most ts → most ≤ 256 → Best b ts c (answer b most ts c)
@@ -35,10 +36,19 @@ best b most ts calls.read good sound few =
     )
 best b most ts (calls.garbled p) good sound few = tt
 
+-- of words as a desk holds them every answer is the definitions'
+pub held_sure : (b : Book) (words kept : List ℕ) (c : calls.Call) → Held b words kept → Answerable b words kept c
+held_sure b words kept (calls.taps t) held = tt
+held_sure b words kept calls.back held = tt
+held_sure b words kept calls.cost held = held
+held_sure b words kept calls.read held = held
+held_sure b words kept (calls.garbled p) held = tt
+
 -- so is an answer that is the definitions'
-pub best_told : (b : Book) (space most : ℕ) (ts : List ℕ) (c : Call) (told : Option Answer) → GoodBook b → most ≤ 256 → Answered b space most ts c told → IfSome told (λ a. Sound most ts → Best b ts (call_of c) (answer_of a))
-best_told b space most ts c None good few is = tt
-best_told b space most ts c (Some a) good few is = λ sound. subst (Best b ts (call_of c)) (sym is.1) (best b most ts (call_of c) good sound few)
+pub best_told : (b : Book) (words kept : List ℕ) (space : ℕ) (c : Call) (told : Option Answer) → GoodBook b → limit_of words ≤ 256 →
+    (Answerable b words kept (call_of c) → Answered b (limit_of words) (length kept) space (taps_in words) c told) → IfSome told (λ a. Held b words kept → Best b (taps_in words) (call_of c) (answer_of a))
+best_told b words kept space c None good few is = tt
+best_told b words kept space c (Some a) good few is = λ held. subst (Best b (taps_in words) (call_of c)) (sym (is (held_sure b words kept (call_of c) held)).1) (best b (limit_of words) (taps_in words) (call_of c) good held.sound few)
 
 -- and so are the answers to any list of calls
 pub all_best : (b : Book) (most : ℕ) (ts : List ℕ) (cs : List calls.Call) → GoodBook b → Sound most ts → most ≤ 256 → AllBest b most ts cs (answers b most ts cs)

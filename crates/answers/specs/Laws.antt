@@ -1,14 +1,13 @@
 -- What holds of answers. The last is a statement: a type, whose proof is owed by the function whose contract names it. Assumes nothing.
 --
 -- Best: what an answer about the best reading says of all readings.
-use Rattle.std.specs.Prelude.{◌≡◌, ℕ, ◌≤◌, true, false, List, [], ◌∷◌, length, Some}
+use Rattle.std.specs.Prelude.{◌≡◌, ℕ, ◌≤◌, true, List, [], ◌∷◌, length, Some}
 use Rattle.taps.specs.Readings.{Book, Read, all_cost, in_book}
 use Rattle.taps.specs.Calls as calls
 use Rattle.taps.specs.Calls.{Answer, number, reads, gaps, after}
 use Rattle.taps.specs.Promise.{GoodBook, comes_first}
 use Rattle.wire.specs.Wire.{answer_in}
-use Rattle.onsets.specs.Laws.{Sound}
-use Rattle.answers.specs.Answered.{unanswered}
+use Rattle.answers.specs.Answered.{answered}
 
 -- rs is a reading of the gaps of taps: one Read for each gap, of kinds and tempi of the book
 abbrev pub IsReading : Book → List ℕ → List Read → Type 0
@@ -43,6 +42,6 @@ AllBest b most ts [] told = told ≡ []
 AllBest b most ts (c ∷ cs) [] = ⊥
 AllBest b most ts (c ∷ cs) (a ∷ told) = Best b ts c a × AllBest b most (after most ts c) cs told
 
--- of taps as a desk holds them every call is answered, where as many words are lent as any rows take
+-- every call is answered, where as many words are lent as any rows take
 unfoldable pub AlwaysAnswered : Type 0
-AlwaysAnswered = (b : Book) (most space : ℕ) (ts : List ℕ) (c : calls.Call) → GoodBook b → Sound most ts → most ≤ 256 → 16640 ≤ space → unanswered b space ts c ≡ false
+AlwaysAnswered = (b : Book) (most kept rows : ℕ) (c : calls.Call) → GoodBook b → most ≤ 256 → 32960 ≤ kept → 16640 ≤ rows → answered b most kept rows c ≡ true

@@ -1,7 +1,7 @@
 // Calls answered one by one and all together, in the book of the README.
 use crate::{answer_call, answer_calls};
 use onsets::MOST_WORDS;
-use plain::MOST_ROW_WORDS;
+use plain::{MOST_KEPT_WORDS, MOST_ROW_WORDS};
 use std::test::Fail;
 use taps::answer::Answer;
 use taps::built_in::built_in_book;
@@ -12,14 +12,17 @@ use taps::read::{Read, Reading};
 fn told(taps: &[u32]) -> Option<(u64, Reading)> {
     let book = &built_in_book();
     let mut words = [0; MOST_WORDS];
+    let mut kept = [5; MOST_KEPT_WORDS];
     let mut rows = [0; MOST_ROW_WORDS];
     for tap in taps {
-        answer_call(book, &mut words, &mut rows, Call::Tap(*tap))?;
+        answer_call(book, &mut words, &mut kept, &mut rows, Call::Tap(*tap))?;
     }
-    let Answer::Number(cost) = answer_call(book, &mut words, &mut rows, Call::Cost)? else {
+    let Answer::Number(cost) = answer_call(book, &mut words, &mut kept, &mut rows, Call::Cost)?
+    else {
         return None;
     };
-    let Answer::Reads(reading) = answer_call(book, &mut words, &mut rows, Call::Read)? else {
+    let Answer::Reads(reading) = answer_call(book, &mut words, &mut kept, &mut rows, Call::Read)?
+    else {
         return None;
     };
     Some((cost, reading))
@@ -57,6 +60,29 @@ fn of_equals_the_first(rt: HostRuntime) {
     assert!(rt; reads(&[0, 600, 775, 925], 4500, &reading));
 }
 
+// What was kept of taps that were taken back is not taken for what is kept of others.
+#[test]
+fn taken_back_and_played_otherwise(rt: HostRuntime) {
+    let book = &built_in_book();
+    let mut words = [0; MOST_WORDS];
+    let mut kept = [5; MOST_KEPT_WORDS];
+    let mut rows = [0; MOST_ROW_WORDS];
+    for time in [0, 500, 1000, 1600, 2200, 2800] {
+        answer_call(book, &mut words, &mut kept, &mut rows, Call::Tap(time));
+    }
+    answer_call(book, &mut words, &mut kept, &mut rows, Call::Read);
+    for _ in 0..3 {
+        answer_call(book, &mut words, &mut kept, &mut rows, Call::Back);
+    }
+    let cost = answer_call(book, &mut words, &mut kept, &mut rows, Call::Cost);
+    assert!(rt; cost.map(number) == Some((1, 0)));
+    for time in [1250, 1500, 2000] {
+        answer_call(book, &mut words, &mut kept, &mut rows, Call::Tap(time));
+    }
+    let cost = answer_call(book, &mut words, &mut kept, &mut rows, Call::Cost);
+    assert!(rt; cost.map(number) == Some((1, 1200)));
+}
+
 // An answer as its first byte's case and its number, or how many gaps are read.
 fn number(answer: Answer) -> (u8, u64) {
     match answer {
@@ -82,9 +108,10 @@ fn calls_one_after_another(rt: HostRuntime) -> Result<(), Fail> {
     ];
     let mut told = [Answer::Number(7); 11];
     let mut words = [5; MOST_WORDS];
+    let mut kept = [5; MOST_KEPT_WORDS];
     let mut rows = [0; MOST_ROW_WORDS];
     let book = &built_in_book();
-    let Some(count) = answer_calls(book, &mut words, &mut rows, &calls, &mut told) else {
+    let Some(count) = answer_calls(book, &mut words, &mut kept, &mut rows, &calls, &mut told) else {
         return Err(Fail::new("no room"));
     };
     assert_eq!(rt; count, 10);
@@ -98,11 +125,23 @@ fn calls_one_after_another(rt: HostRuntime) -> Result<(), Fail> {
 fn calls_without_room(rt: HostRuntime) {
     let book = &built_in_book();
     let mut words = [5; MOST_WORDS];
+    let mut kept = [5; MOST_KEPT_WORDS];
     let mut rows = [0; MOST_ROW_WORDS];
     let mut told = [Answer::Number(7); 1];
     let calls = [Call::Back, Call::Back];
-    assert!(rt; answer_calls(book, &mut words, &mut rows, &calls, &mut told).is_none());
-    assert!(rt; answer_calls(book, &mut words, &mut rows[1..], &calls[1..], &mut told).is_none());
+    assert!(rt; answer_calls(book, &mut words, &mut kept, &mut rows, &calls, &mut told).is_none());
     assert!(rt; words == [5; MOST_WORDS]);
     assert!(rt; number(told[0]) == (1, 7));
+}
+
+#[test]
+fn calls_without_room_for_rows(rt: HostRuntime) {
+    let book = &built_in_book();
+    let mut words = [5; MOST_WORDS];
+    let mut kept = [5; MOST_KEPT_WORDS];
+    let mut rows = [0; MOST_ROW_WORDS - 1];
+    let mut told = [Answer::Number(7); 1];
+    let calls = [Call::Back];
+    assert!(rt; answer_calls(book, &mut words, &mut kept, &mut rows, &calls, &mut told).is_none());
+    assert!(rt; words == [5; MOST_WORDS]);
 }

@@ -8,9 +8,8 @@
 ghost use Rattle.std.specs.Prelude.{◌≡◌, ◌≤◌, [], length, replicate};
 ghost use Rattle.taps.specs.Calls.{after, answer};
 ghost use Rattle.taps.specs.Values.{answer_of, book_of, call_of};
-ghost use Rattle.onsets.specs.Laws.{Sound};
 ghost use Rattle.onsets.specs.Onsets.{limit_of, taps_in, words_after};
-ghost use Rattle.answers.specs.Answered.{rows_after};
+ghost use Rattle.answers.specs.Answered.{Held, kept_after, rows_after};
 ghost use Rattle.answers.specs.Laws.{Best};
 
 mod line;
@@ -20,7 +19,7 @@ use anyhow::{anyhow, bail};
 use books::book::decode_book;
 use line::{Line, parse_call};
 use onsets::MOST_WORDS;
-use plain::MOST_ROW_WORDS;
+use plain::{MOST_KEPT_WORDS, MOST_ROW_WORDS};
 use std::fs::File;
 use std::io::{BufRead, BufReader};
 use std::process::ExitCode;
@@ -87,11 +86,11 @@ fn run(rt: &HostRuntime) -> anyhow::Result<()> {
         bail!("more than one file of calls, or an option behind it (desk --help tells more)");
     }
     let Some(calls) = next else {
-        return answer_lines(rt, &book, BufReader::new(rt.alloc(), rt.stdin())?);
+        return answer_lines(rt, book, BufReader::new(rt.alloc(), rt.stdin())?);
     };
     match calls.as_str() {
         "--help" | "-h" => Ok(println!(rt; "{HELP}")?),
-        path => answer_file(rt, &book, path),
+        path => answer_file(rt, book, path),
     }
 }
 
@@ -100,7 +99,7 @@ fn read_book(rt: &HostRuntime, path: &str) -> anyhow::Result<Book> {
     decode_book(bytes.as_slice()).map_err(|_| anyhow!("{path}: its bytes are no book"))
 }
 
-fn answer_file(rt: &HostRuntime, book: &Book, path: &str) -> anyhow::Result<()> {
+fn answer_file(rt: &HostRuntime, book: Book, path: &str) -> anyhow::Result<()> {
     if path.starts_with('-') {
         bail!("unknown option {path} (desk --help tells more)");
     }
@@ -109,17 +108,16 @@ fn answer_file(rt: &HostRuntime, book: &Book, path: &str) -> anyhow::Result<()> 
 }
 
 // Each answer is out before the next line is waited for.
-fn answer_lines<R: BufRead + Drop>(rt: &HostRuntime, book: &Book, input: R) -> anyhow::Result<()> {
-    let mut memory = Memory::new();
+fn answer_lines<R: BufRead + Drop>(rt: &HostRuntime, book: Book, input: R) -> anyhow::Result<()> {
+    let mut memory = Memory::new(book);
     for (number, line) in input.split(rt.alloc(), b'\n').enumerate() {
-        answer_line(rt, book, &mut memory, line?.as_slice(), number)?;
+        answer_line(rt, &mut memory, line?.as_slice(), number)?;
     }
     Ok(())
 }
 
 fn answer_line(
     rt: &HostRuntime,
-    book: &Book,
     memory: &mut Memory,
     line: &[u8],
     number: usize,
@@ -127,48 +125,59 @@ fn answer_line(
     let Some(call) = parse_call(line) else {
         return println!(rt; "refused 1 at {number}");
     };
-    let answer = &memory.ask(book, call);
+    let answer = &memory.ask(call);
+    let book = &memory.book;
     println!(rt; "{}", Line { book, answer })
 }
 
-// What the program lends, so that no call wants memory: words for 256 taps, and words for the rows of as many.
+// A book, and what the program lends, so that no call wants memory: words for 256 taps, for what is kept of them, and for
+// the rows from the last gap on.
 #[derive(Drop)]
 struct Memory {
+    book: Book,
     words: [u64; MOST_WORDS],
+    kept: [u64; MOST_KEPT_WORDS],
     rows: [u64; MOST_ROW_WORDS],
     ghost limit: { limit_of words ≡ 256 },
-    ghost room: { 16640 ≤ length rows },
-    ghost sound: { Sound (limit_of words) (taps_in words) },
+    ghost kept_room: { 32960 ≤ length kept },
+    ghost rows_room: { 16640 ≤ length rows },
+    ghost held: { Held (book_of book) words kept },
 }
 
 impl Memory {
     // No taps.
-    #[tactic(auto, using(onsets::proofs::Sound::none_sound))]
-    fn new() -> Memory
+    fn new(book: Book) -> Memory
+        ensures book { result.book ≡ book }
         ensures words { result.words ≡ replicate 257 0 }
+        ensures kept { result.kept ≡ replicate 32960 0 }
         ensures rows { result.rows ≡ replicate 16640 0 }
         ensures taps { taps_in result.words ≡ [] }
     {
         Memory {
+            book,
             words: [0; MOST_WORDS],
+            kept: [0; MOST_KEPT_WORDS],
             rows: [0; MOST_ROW_WORDS],
         }
     }
 
     // Sends a call as bytes, and reads the bytes that it is answered by.
-    fn ask(&mut self, book: &Book, call: Call) -> Answer
+    fn ask(&mut self, call: Call) -> Answer
+        ensures book { self.new.book ≡ self.old.book }
         ensures after { self.new.words ≡ words_after self.old.words (call_of call) }
         ensures taps { taps_in self.new.words ≡ after 256 (taps_in self.old.words) (call_of call) }
-        ensures rows { self.new.rows ≡ rows_after (book_of book.now) (taps_in self.old.words) (call_of call) self.old.rows }
-        ensures value { answer_of result ≡ answer (book_of book.now) 256 (taps_in self.old.words) (call_of call) }
-        ensures best { Best (book_of book.now) (taps_in self.old.words) (call_of call) (answer_of result) }
+        ensures kept { self.new.kept ≡ kept_after (book_of self.old.book) 256 (taps_in self.old.words) (call_of call) self.old.kept }
+        ensures rows { self.new.rows ≡ rows_after (book_of self.old.book) (taps_in self.old.words) (call_of call) self.old.rows }
+        ensures value { answer_of result ≡ answer (book_of self.old.book) 256 (taps_in self.old.words) (call_of call) }
+        ensures best { Best (book_of self.old.book) (taps_in self.old.words) (call_of call) (answer_of result) }
     {
         let mut request = [0; CALL_SIZE];
         let mut bytes = [0; ANSWER_SIZE];
         let sent = encode_call(call, &mut request).unwrap();
         let told = answer_bytes(
-            book,
+            &self.book,
             &mut self.words,
+            &mut self.kept,
             &mut self.rows,
             &request[..sent],
             &mut bytes,

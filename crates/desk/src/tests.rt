@@ -9,7 +9,7 @@ use taps::refusal::Refusal;
 
 #[test]
 fn room_for_all_taps(rt: HostRuntime) {
-    let memory = Memory::new();
+    let memory = Memory::new(built_in_book());
     assert_eq!(rt; memory.words.len(), 257);
     assert_eq!(rt; limit(&memory.words), 256);
     assert_eq!(rt; count(&memory.words), 0);

@@ -1,16 +1,15 @@
 -- Which read meets a cost first, as loops over kinds and then over tempi try them. Assumes nothing.
-use Rattle.std.proofs.Common.{◌≡◌, ℕ, ◌+◌, ◌-◌, ◌<◌, ◌≤◌, Bool, true, false, ◌&&◌, not, List, map, length, filter, get_or, Some, None, Option, eqb, sym, refl, ap, ◌∙◌, arith}
-use Rattle.std.specs.Option.{option_or, option_eq, SomeIff}
+use Rattle.std.proofs.Common.{◌≡◌, ℕ, ◌+◌, ◌<◌, ◌≤◌, Bool, true, false, ◌&&◌, not, List, map, length, filter, get_or, Some, None, Option, eqb, sym, refl, ap, ◌∙◌, arith}
+use Rattle.std.specs.Option.{option_or}
 use Rattle.std.specs.List.{range_with_len}
 use Rattle.std.proofs.lemmas.Bool.{cond-true, cond-false}
-use Rattle.std.proofs.lemmas.Bool.Decides.{nat_tests}
 use Rattle.std.proofs.lemmas.List.Elements.{filter_agree}
 use Rattle.bitset.specs.Members.{member}
 use Rattle.least.specs.Minima.{first}
 use Rattle.least.proofs.Minimal.{first_append}
 use Rattle.taps.specs.Readings.{Book, Read, costs}
 use Rattle.taps.specs.Plain.{read, reads_of}
-use Rattle.fit.specs.Fit.{meets, first_meeting}
+use Rattle.fit.specs.Fit.{fit, meets, first_meeting, change_cost, Wanted}
 use Rattle.fit.proofs.Left.{left, left_one, left_none, left_all}
 use Rattle.fit.proofs.Smallest.{filter_none, filter_first}
 
@@ -18,10 +17,9 @@ module _ (b : Book) (before gap : ℕ) (rest : List ℕ) (cost : ℕ) where
   abbrev pub met : ℕ → ℕ → Bool
   met k t = meets b before gap rest cost (read k t)
 
-  -- the code takes what the read costs from the cost, and compares what is left with what follows
-  pub tested : (k t w : ℕ) (left : Option ℕ) → w ≡ costs b before gap (read k t) → SomeIff left (w ≤ cost) (cost - w) → met k t ≡ option_eq eqb left (Some (get_or rest t 0))
-  tested k t w None e h = grind (arith, nat_tests)
-  tested k t w (Some d) e h = grind (arith, nat_tests)
+  -- the code compares what the gap costs by itself with what it is to cost
+  pub tested : (k t w v : ℕ) → v ≡ fit b gap k t → v < 536870912 → Wanted w cost (get_or rest t 0) (change_cost b before t) → eqb v w ≡ met k t
+  tested k t w v is small wanted = wanted v small ∙ ap (λ x. eqb (x + get_or rest t 0) cost) (let split : v + change_cost b before t ≡ costs b before gap (read k t) = omega (arith, is) in split)
 
   -- the first read of some kinds, and of one kind at some tempi
   abbrev first_of_kinds : List ℕ → Option Read

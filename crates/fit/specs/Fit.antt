@@ -3,11 +3,12 @@
 -- set: the kinds that the gap may be read as, as the bits of a number. rest: what follows costs, by the tempo that it comes after.
 -- fit: what a gap costs as a kind at a tempo, by their places in the book, but for the change of tempo: what it costs as the first gap.
 -- fits: a row with the least such cost at each tempo. first_meeting: the first read, by kinds and then by tempi, with which the gap and what follows cost just so much.
-use Rattle.std.specs.Prelude.{ℕ, suc, ◌+◌, Bool, List, map, length, filter, Some, None, Option, ◌==◌, slice_index}
+-- change_cost: what the change of tempo costs. Wanted: what the gap is to cost by itself, so that a cost is met.
+use Rattle.std.specs.Prelude.{◌≡◌, ℕ, suc, ◌+◌, ◌-◌, ◌*◌, ◌<◌, Bool, List, map, length, filter, Some, None, Option, ◌==◌, slice_index}
 use Rattle.std.specs.List.{range_with_len}
 use Rattle.bitset.specs.Members.{member}
 use Rattle.least.specs.Minima.{capped, over, first}
-use Rattle.taps.specs.Readings.{Book, Read, costs, too_much}
+use Rattle.taps.specs.Readings.{pick, Book, Read, apart, tempo_at, costs, too_much}
 use Rattle.taps.specs.Plain.{read, reads_of}
 
 abbrev pub fit : Book → ℕ → ℕ → ℕ → ℕ
@@ -36,3 +37,11 @@ first_meeting b set before gap rest cost = first (meets b before gap rest cost) 
 abbrev pub before_of : Option ℕ → ℕ
 before_of None = 0
 before_of (Some s) = suc s
+
+-- what the change costs from the tempo before, if there is one, to another
+abbrev pub change_cost : Book → ℕ → ℕ → ℕ
+change_cost b before t = pick (before == 0) 0 (b.change * apart (tempo_at b (before - 1)) (tempo_at b t))
+
+-- w is what a gap is to cost by itself, so that it costs just so much with what follows and the change: of costs that fit 29 bits no other does
+abbrev pub Wanted : ℕ → ℕ → ℕ → ℕ → Type 0
+Wanted w cost rest changed = (fit : ℕ) → fit < 536870912 → (fit == w) ≡ ((fit + changed) + rest == cost)

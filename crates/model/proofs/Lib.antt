@@ -1,6 +1,6 @@
 pub mod Numbers
-mod Steps
+pub mod Steps
 mod Bounds
 pub mod Tables
+pub mod Kept
 pub mod Walk
-mod Least

@@ -1,10 +1,8 @@
 -- Which numbers a table has: how many, and the rows one by one. Assumes nothing.
-use Rattle.std.proofs.Common.{◌≡◌, ℕ, ◌+◌, ◌*◌, ◌≤◌, min, List, [], ◌∷◌, ◌++◌, length, take, drop, replicate, Some, sym, refl, ap, ◌∙◌, arith}
+use Rattle.std.proofs.Common.{◌≡◌, ℕ, ◌+◌, ◌*◌, ◌≤◌, List, [], ◌∷◌, ◌++◌, length, take, drop, replicate, sym, refl, ap, ◌∙◌, arith}
 use Rattle.std.proofs.Math.Nat.{add-mul}
-use Rattle.std.proofs.lemmas.List.{length-append, length-take, take-take, take_at, drop_at, take_all, get_or-replicate, length-replicate}
+use Rattle.std.proofs.lemmas.List.{length-append, take_at, drop_at, take_all, get_or-replicate, length-replicate}
 use Rattle.least.specs.Readers.{Reader, States, suffix}
-use Rattle.octets.specs.Bytes.{room, written}
-use Rattle.octets.proofs.Front.{read_back}
 use Rattle.model.specs.Rows.{states_below, for_suffixes, suffix_row, suffix_rows, backward}
 use Rattle.model.proofs.Numbers.{row_size, row_by}
 use Rattle.model.proofs.Steps.{backward_row}
@@ -33,12 +31,6 @@ module _ {G C : Type 0} (r : Reader G ℕ C) (n : ℕ) where
   wide : (gs : List G) → length (suffix_row r n gs) ≡ n
   wide gs = row_size n (λ s. suffix r s gs)
 
-  pub rows_none : (gs : List G) → gs ≡ [] → length (suffix_rows r n gs) ≡ n
-  rows_none = suffixes_none (suffix_row r n) n wide
-
-  pub rows_more : (gs hs : List G) (g : G) → gs ≡ g ∷ hs → length (suffix_rows r n gs) ≡ n + length (suffix_rows r n hs)
-  rows_more = suffixes_more (suffix_row r n) n wide
-
   pub rows_size : (gs : List G) → length (suffix_rows r n gs) ≡ (length gs + 1) * n
   rows_size = suffixes_size (suffix_row r n) n wide
 
@@ -49,14 +41,6 @@ module _ {G C : Type 0} (r : Reader G ℕ C) (n : ℕ) where
   pub rows_next : (g : G) (gs : List G) (words : List ℕ) → words ≡ suffix_rows r n (g ∷ gs) → drop n words ≡ suffix_rows r n gs
   unfolding for_suffixes
   rows_next g gs words e = ap (drop n) e ∙ drop_at (suffix_row r n (g ∷ gs)) (suffix_rows r n gs) n (wide (g ∷ gs))
-
-  -- the same of a slice that they are written into
-  pub first_written : (gs : List G) (old words : List ℕ) (size : ℕ) → Some size ≡ room (suffix_rows r n gs) old → words ≡ written (suffix_rows r n gs) old →
-      (n ≤ length words) × (take n words ≡ suffix_row r n gs)
-  first_written gs old words size fits left =
-      let first = rows_first gs (take size words) (read_back (suffix_rows r n gs) old words size fits left) in
-      let long : n ≤ min size (length words) = omega (arith, first.0, length-take size words) in
-      (omega arith, sym (take-take n size words (omega arith)) ∙ first.1)
 
   -- after all steps nothing is left to cost anything
   pub rows_last : (gs : List G) (words : List ℕ) → gs ≡ [] → words ≡ replicate n 0 → words ≡ suffix_rows r n gs

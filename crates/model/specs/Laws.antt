@@ -4,7 +4,7 @@ use Rattle.std.specs.List.{list_all}
 use Rattle.least.specs.Minima.{capped, Among}
 use Rattle.least.specs.Readers.{Reader, States, suffix, told, least}
 use Rattle.taps.specs.Readings.{too_much}
-use Rattle.model.specs.Rows.{states_below, suffix_row, backward, starting, prefix_row, forward}
+use Rattle.model.specs.Rows.{states_below, suffix_row, suffix_rows, backward, starting, prefix_row, forward, ending, meeting}
 use Rattle.model.specs.Walk.{walked}
 
 -- its states are the numbers below n; a reading can start for no more than `most`, and at each step that is fair it can go on for no more than that
@@ -22,9 +22,17 @@ unfoldable pub Forward : (G C : Type 0) → Type 0
 Forward G C =
     (r : Reader G ℕ C) (st : States r) (n : ℕ) → st.all ≡ states_below n → (gs : List G) (g : G) → prefix_row r st n (gs ++ g ∷ []) ≡ forward r st n g (prefix_row r st n gs)
 
--- the least of all is that of the row before the first step
+-- the least of all is told by the row before the first step, by the row after the last, and by the two rows between any steps and those after them: one number
 unfoldable pub Starting : (G C : Type 0) → Type 0
 Starting G C = (r : Reader G ℕ C) (st : States r) (n : ℕ) → st.all ≡ states_below n → (gs : List G) → starting r (suffix_row r n gs) ≡ capped too_much (least r gs)
+
+unfoldable pub Ending : (G C : Type 0) → Type 0
+Ending G C = (r : Reader G ℕ C) (st : States r) (n : ℕ) → st.all ≡ states_below n → (gs : List G) → ending n (prefix_row r st n gs) ≡ capped too_much (least r gs)
+
+unfoldable pub Meeting : (G C : Type 0) → Type 0
+Meeting G C =
+    (r : Reader G ℕ C) (st : States r) (n : ℕ) → st.all ≡ states_below n → (gs hs : List G) →
+    meeting n (prefix_row r st n gs) (suffix_row r n hs) ≡ capped too_much (least r (gs ++ hs))
 
 -- where each step is fair and they are not too many, the number told is the least itself, and not the cap
 unfoldable pub Exact : (G C : Type 0) → Type 0
@@ -37,4 +45,4 @@ Exact G C =
 unfoldable pub Walked : (G C : Type 0) → Type 0
 Walked G C =
     (r : Reader G ℕ C) (st : States r) (n : ℕ) → st.all ≡ states_below n → (s : ℕ) → s < n → (gs : List G) →
-    (capped too_much (suffix r s gs) < too_much → walked r n s gs ≡ told r s gs) × (suffix r s gs ≡ None → walked r n s gs ≡ None)
+    (capped too_much (suffix r s gs) < too_much → walked r n s gs (suffix_rows r n gs) ≡ told r s gs) × (suffix r s gs ≡ None → walked r n s gs (suffix_rows r n gs) ≡ None)

@@ -1,5 +1,5 @@
 -- What a gap costs alone at each tempo, and what the change costs besides. Assumes nothing.
-use Rattle.std.proofs.Common.{◌≡◌, ℕ, suc, ◌+◌, ◌-◌, ◌*◌, ◌<◌, ◌≤◌, eqb, List, [], ◌∷◌, length, get_or, set, take, drop, Some, None, Option, All, refl, ap, ◌∙◌, arith}
+use Rattle.std.proofs.Common.{◌≡◌, ℕ, suc, ◌+◌, ◌-◌, ◌*◌, ◌<◌, ◌≤◌, eqb, List, [], ◌∷◌, length, get_or, set, take, drop, Some, None, Option, refl, ap, ◌∙◌, arith}
 use lib.Dec.{eqb-suc-zero}
 use Rattle.std.specs.Option.{SomeIff}
 use Rattle.std.proofs.lemmas.List.{take_rest}
@@ -10,7 +10,7 @@ use Rattle.taps.specs.Readings.{pick, Book, apart, tempo_at, costs, too_much}
 use Rattle.taps.specs.Plain.{read}
 use Rattle.fit.specs.Fit.{before_of, fit, least_fit, fits}
 use Rattle.model.specs.declared.Step.{Step}
-use Rattle.model.proofs.Numbers.{row_at, row_small}
+use Rattle.model.proofs.Numbers.{row_at}
 use Rattle.plain.specs.Restricted.{kinds_at}
 
 -- the place of the tempo before, if a state has one, tells the state
@@ -33,9 +33,6 @@ module _ (b : Book) (g : Step) where
   -- what the gap costs alone at a tempo
   abbrev pub alone : ℕ → ℕ
   alone t = capped too_much (least_fit b g.kinds.bits g.gap t)
-
-  pub alone_small : (row : List ℕ) → row ≡ fits b g.kinds.bits g.gap → All (λ v. v ≤ too_much) row
-  alone_small row e = rw e (row_small (length b.tempi) (least_fit b g.kinds.bits g.gap))
 
   pub alone_at : (row : List ℕ) → row ≡ fits b g.kinds.bits g.gap → (t : ℕ) → t < length b.tempi → get_or row t 0 ≡ alone t
   alone_at row e t h = ap (λ xs. get_or xs t 0) e ∙ row_at (length b.tempi) (least_fit b g.kinds.bits g.gap) t h

@@ -1,6 +1,7 @@
 -- The row before a step, from the row after it. Assumes nothing.
-use Rattle.std.proofs.Common.{◌≡◌, ℕ, zero, suc, ◌+◌, ◌<◌, ◌≤◌, min, List, ◌∷◌, ◌++◌, length, get_or, set, Some, None, Option, unwrap_or, refl, ap, ◌∙◌, inl, inr, arith}
+use Rattle.std.proofs.Common.{◌≡◌, ℕ, zero, suc, ◌+◌, ◌<◌, ◌≤◌, min, All, List, [], ◌∷◌, ◌++◌, length, get_or, set, Some, None, Option, unwrap_or, refl, ap, ◌∙◌, inl, inr, arith}
 use Rattle.std.proofs.lemmas.Bool.{cases_lt}
+use Rattle.std.proofs.lemmas.List.Elements.{All-append, All-get_or, All-from_get_or}
 use Rattle.least.specs.Minima.{Least, capped, plus, over, Among, Entry}
 use Rattle.least.proofs.Capped.{capped_least}
 use Rattle.least.proofs.Folds.{LeastFrom, Near, from_near}
@@ -14,6 +15,10 @@ use Rattle.model.specs.declared.Step.{Step}
 use Rattle.model.proofs.Numbers.{row_by}
 use Rattle.plain.specs.Restricted.{kinds_at, restricted, state_count}
 use Rattle.plain.proofs.Alone.{one_set, alone, change, change_after, costs_split, alone_low, alone_found}
+
+least_small : (row : List ℕ) (m : Option ℕ) → Least (Entry row) m → All (λ w. w ≤ too_much) row → unwrap_or m too_much ≤ too_much
+least_small row None least small = omega arith
+least_small row (Some m) least small = omega (arith, least.0.2, All-get_or (λ w. w ≤ too_much) row least.0.0 0 least.0.1 small)
 
 module _ (b : Book) (g : Step) (after : List ℕ) where
   -- what the gap costs at a tempo, and what follows it
@@ -90,3 +95,12 @@ module _ (b : Book) (g : Step) (after : List ℕ) where
         ap (λ xs. xs ++ new) (one_set start v one)
         ∙ before_row (v ∷ new) (omega (arith, long, size)) (rw first (first_arrived m least))
         (λ t h. later_arrived new shifted (omega (arith, long, size)) t h (kept t (omega (arith, long, size))))
+
+-- no number of such a row is above the cap
+pub before_small : (start row new : List ℕ) (m : Option ℕ) (v : ℕ) → length start ≡ 1 → Least (Entry row) m → v ≡ unwrap_or m too_much → All (λ w. w ≤ too_much) row → length new ≡ length row →
+    ((s : ℕ) → s < length new → get_or new s 0 ≤ get_or row s 0) → All (λ w. w ≤ too_much) (set start 0 v ++ new)
+before_small start row new m v one least first small long kept =
+    let low : v ≤ too_much = rw first (least_small row m least small) in
+    let rest : All (λ w. w ≤ too_much) new =
+    All-from_get_or (λ w. w ≤ too_much) new 0 (λ s h. omega (arith, kept s h, All-get_or (λ w. w ≤ too_much) row s 0 (omega (arith, long, h)) small)) in
+    rw (one_set start v one) (All-append (λ w. w ≤ too_much) (v ∷ []) new (All-from_get_or (λ w. w ≤ too_much) (v ∷ []) 0 (λ s h. let none : s ≡ 0 = omega arith in rw none low)) rest)

@@ -79,7 +79,7 @@ module _ (b : Book) (g : Step) (before : List ℕ) where
   either_way : (s t : ℕ) → change b g (suc s) t ≡ b.change * apart (tempo_at b t) (tempo_at b s)
   either_way s t = change_after b g s t ∙ (let same : apart (tempo_at b s) (tempo_at b t) ≡ apart (tempo_at b t) (tempo_at b s) = omega arith in ap (λ n. b.change * n) same)
 
-  module _ (row moved new : List ℕ) (size : length row ≡ length b.tempi) (each : (s : ℕ) → get_or row s 0 ≡ get_or before (suc s) 0) (shifted : Shifted b.change b.tempi row moved)
+  module _ (row moved new : List ℕ) (size : length row ≡ length b.tempi) (each : (s : ℕ) → s < length b.tempi → get_or row s 0 ≡ min (get_or before (suc s) 0) too_much) (shifted : Shifted b.change b.tempi row moved)
       (long : length moved ≡ length row) (is : (t : ℕ) → t < length b.tempi → get_or new t 0 ≡ min (min (get_or moved t 0) (get_or before 0 0) + alone b g t) too_much) where
     reached_least : (t : ℕ) → t < length b.tempi → LeastFrom (Reached t) too_much (get_or new t 0)
     reached_least t h =
@@ -88,11 +88,11 @@ module _ (b : Book) (g : Step) (before : List ℕ) where
           below = omega (arith, is t h);
           under = λ v p. elim p.0 as (λ s. s < state_count b → v ≡ alone b g t + (get_or before s 0 + change b g s t) → get_or new t 0 ≤ v) [
             | zero ↦ λ i e. omega (arith, is t h, e)
-            | suc s ↦ λ i e. omega (arith, is t h, e, l.1 _ (s, omega (arith, size), refl), each s, either_way s t)
+            | suc s ↦ λ i e. omega (arith, is t h, e, l.1 _ (s, omega (arith, size), refl), each s (omega arith), either_way s t)
           ] p.1 p.2;
           found = elim (cases_lt (min (get_or moved t 0) (get_or before 0 0) + alone b g t) too_much) [
             | inl under ↦ elim (cases_lt (get_or moved t 0) (get_or before 0 0)) [
-              | inl lt ↦ inr (suc l.0.0, omega (arith, size, l.0.1), omega (arith, is t h, l.0.2, each l.0.0, either_way l.0.0 t))
+              | inl lt ↦ inr (suc l.0.0, omega (arith, size, l.0.1), omega (arith, is t h, l.0.2, each l.0.0 (omega (arith, size, l.0.1)), either_way l.0.0 t))
               | inr ge ↦ inr (0, omega arith, omega (arith, is t h))
             ]
             | inr over ↦ inl (omega (arith, is t h))

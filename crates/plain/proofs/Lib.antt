@@ -2,4 +2,5 @@ mod Freely
 mod Alone
 mod Backward
 mod Forward
+mod Meeting
 pub mod Room

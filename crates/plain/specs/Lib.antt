@@ -1,3 +1,4 @@
 pub mod Restricted
 pub mod Owed
 pub mod Rows
+pub mod Laws

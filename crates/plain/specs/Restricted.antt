@@ -24,9 +24,17 @@ state_count b = suc (length b.tempi)
 abbrev pub fair : Book → Step → Bool
 fair b g = nat_lt 0 (length (kinds_at b g))
 
+-- how many numbers tell what a gap costs by itself: one for each tempo
+abbrev pub tempo_count : Book → ℕ
+tempo_count b = length b.tempi
+
 -- the gaps of some steps; and that each may be read as any kind
 abbrev pub gaps_of : List Step → List ℕ
 gaps_of gs = map (λ g. g.gap) gs
 
 abbrev pub Free : List Step → Type 0
 Free gs = All (λ g. (k : ℕ) → k < 32 → member g.kinds.bits k ≡ true) gs
+
+-- each gap is below 2^24 ms, as a step's is
+abbrev pub Short : List ℕ → Type 0
+Short gs = All (λ g. g < 16777216) gs

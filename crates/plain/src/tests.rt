@@ -3,11 +3,16 @@ ghost use Rattle.std.specs.Prelude.{◌≡◌};
 ghost use Rattle.taps.specs.Values.{book_of};
 ghost use Rattle.taps.specs.Worked.{worked};
 
-use crate::Plain;
+use crate::{Plain, keep_gap, keep_start, kept_cost, kept_words, row_words};
 use bitset::BitSet;
-use model::{Step, Trellis, least_cost};
+use model::{Step, keep_step, write_suffix_rows};
 use taps::built_in::built_in_book;
 use taps::read::TOO_MUCH;
+
+// Words for what is kept of five gaps at four tempi, and for their rows.
+const KEPT: usize = 50;
+
+const ROWS: usize = 30;
 
 fn model() -> Plain
     ensures { book_of result.book ≡ worked }
@@ -17,74 +22,125 @@ fn model() -> Plain
     }
 }
 
-// A gap that may be read as any kind.
-fn step(gap: u32) -> Step {
-    Step {
-        gap,
-        kinds: BitSet::full(),
+// Keeps gaps, and says what they cost.
+fn keep(gaps: &[u16], kept: &mut [u64]) -> Option<u64> {
+    let book = &built_in_book();
+    keep_start(book, kept)?;
+    for (done, gap) in gaps.iter().enumerate() {
+        keep_gap(book, done, u32::from(*gap), kept)?;
     }
+    kept_cost(book, gaps.len(), kept)
 }
 
-fn cost(steps: &[Step]) -> Option<u64> {
-    least_cost(&model(), steps, &mut [0; 30])
+fn cost(gaps: &[u16]) -> Option<u64> {
+    keep(gaps, &mut [7; KEPT])
 }
 
 #[test]
 fn worked_gaps(rt: HostRuntime) {
-    let (half, quarter) = (step(500), step(250));
-    assert!(rt; cost(&[half, half, quarter, quarter, half]) == Some(1200));
-    assert!(rt; cost(&[step(510), step(480), step(270), step(220), step(530)]) == Some(2520));
-    assert!(rt; cost(&[step(400), step(400), step(200), step(200), step(400)]) == Some(1200));
-    assert!(rt; cost(&[half, step(167), step(166), step(167), half]) == Some(4800));
-    assert!(rt; cost(&[half, half, step(600), step(600), step(600)]) == Some(2000));
-    assert!(rt; cost(&[step(240)]) == Some(720));
+    assert!(rt; cost(&[500, 500, 250, 250, 500]) == Some(1200));
+    assert!(rt; cost(&[510, 480, 270, 220, 530]) == Some(2520));
+    assert!(rt; cost(&[400, 400, 200, 200, 400]) == Some(1200));
+    assert!(rt; cost(&[500, 167, 166, 167, 500]) == Some(4800));
+    assert!(rt; cost(&[500, 500, 600, 600, 600]) == Some(2000));
+    assert!(rt; cost(&[240]) == Some(720));
     assert!(rt; cost(&[]) == Some(0));
 }
 
 #[test]
-fn rows_for_each_tempo_before(rt: HostRuntime) {
-    let mut words = [7; 17];
-    assert!(rt; least_cost(&model(), &[step(500), step(250)], &mut words) == Some(600));
-    assert!(rt; words[..5] == [600, 2400, 600, 2400, 4200]);
-    assert!(rt; words[5..10] == [600, 1200, 600, 1200, 2100]);
-    assert!(rt; words[10..] == [0, 0, 0, 0, 0, 7, 7]);
+fn what_is_kept_of_two_gaps(rt: HostRuntime) {
+    let mut kept = [7; 25];
+    assert!(rt; keep(&[500, 250], &mut kept) == Some(600));
+    assert!(rt; kept[..5] == [0, TOO_MUCH, TOO_MUCH, TOO_MUCH, TOO_MUCH]);
+    assert!(rt; kept[5..9] == [1200, 0, 1200, 2100]);
+    assert!(rt; kept[9..14] == [TOO_MUCH, 1200, 0, 1200, 2100]);
+    assert!(rt; kept[14..18] == [1200, 600, 1200, 2100]);
+    assert!(rt; kept[18..] == [TOO_MUCH, 2400, 600, 2400, 4200, 7, 7]);
+}
+
+// A gap that takes another's place leaves nothing of it.
+#[test]
+fn played_otherwise(rt: HostRuntime) {
+    let book = &built_in_book();
+    let mut kept = [7; KEPT];
+    keep(&[500, 500, 600, 600, 600], &mut kept);
+    keep_gap(book, 2, 250, &mut kept);
+    keep_gap(book, 3, 250, &mut kept);
+    keep_gap(book, 4, 500, &mut kept);
+    let mut other = [7; KEPT];
+    assert!(rt; keep(&[500, 500, 250, 250, 500], &mut other) == Some(1200));
+    assert!(rt; kept == other);
 }
 
 #[test]
 fn words_too_few_stay_as_they_are(rt: HostRuntime) {
-    let mut words = [7; 14];
-    assert!(rt; least_cost(&model(), &[step(500), step(250)], &mut words).is_none());
-    assert!(rt; words == [7; 14]);
+    let book = &built_in_book();
+    let mut kept = [7; 13];
+    assert!(rt; keep_start(book, &mut kept[..4]).is_none());
+    assert!(rt; keep_gap(book, 0, 500, &mut kept).is_none());
+    assert!(rt; kept_cost(book, 1, &kept).is_none());
+    assert!(rt; kept == [7; 13]);
+    assert!(rt; (kept_words(book, 5), row_words(book, 5)) == (KEPT, ROWS));
+    assert!(rt; (kept_words(book, 300), row_words(book, 300)) == (2300, 1280));
+}
+
+// A gap that may be read as any kind, or as some.
+fn step(gap: u16, kinds: BitSet) -> Step {
+    let gap = u32::from(gap);
+    Step { gap, kinds }
+}
+
+#[test]
+fn rows_for_each_tempo_before(rt: HostRuntime) {
+    let steps = [step(500, BitSet::full()), step(250, BitSet::full())];
+    let mut kept = [7; 23];
+    keep(&[500, 250], &mut kept);
+    let mut rows = [7; 17];
+    assert!(rt; write_suffix_rows(&model(), &steps, &kept, &mut rows) == Some(15));
+    assert!(rt; rows[..5] == [600, 2400, 600, 2400, 4200]);
+    assert!(rt; rows[5..10] == [600, 1200, 600, 1200, 2100]);
+    assert!(rt; rows[10..] == [0, 0, 0, 0, 0, 7, 7]);
+    assert!(rt; write_suffix_rows(&model(), &steps, &kept, &mut rows[..14]).is_none());
+}
+
+// The least sum of what leads to a tempo and what follows it, where rows of both directions meet.
+fn meeting(before: &[u64], after: &[u64]) -> u64 {
+    let mut least = TOO_MUCH;
+    for (before, after) in before.iter().zip(after) {
+        least = least.min(before.saturating_add(*after));
+    }
+    least
+}
+
+#[test]
+fn one_least_by_all_rows(rt: HostRuntime) {
+    let all = BitSet::full();
+    let steps = [
+        step(500, all),
+        step(167, all),
+        step(166, all),
+        step(167, all),
+        step(500, all),
+    ];
+    let mut kept = [7; KEPT];
+    let mut rows = [7; ROWS];
+    assert!(rt; keep(&[500, 167, 166, 167, 500], &mut kept) == Some(4800));
+    assert!(rt; write_suffix_rows(&model(), &steps, &kept, &mut rows) == Some(ROWS));
+    assert!(rt; rows[0] == 4800);
+    for gaps in 0..6 {
+        let before = &kept[9 * gaps..][..5];
+        let after = &rows[5 * gaps..][..5];
+        assert!(rt; meeting(before, after) == 4800);
+    }
 }
 
 #[test]
 fn with_some_kinds_alone(rt: HostRuntime) {
-    let eighth = BitSet::only(1);
-    let none = BitSet::only(6);
-    assert!(rt;
-        cost(&[Step {
-            gap: 500,
-            kinds: eighth
-        }]) == Some(2100)
-    );
-    assert!(rt;
-        cost(&[
-            step(500),
-            Step {
-                gap: 250,
-                kinds: none
-            }
-        ]) == Some(TOO_MUCH)
-    );
-}
-
-#[test]
-fn a_row_from_the_row_before_it(rt: HostRuntime) {
-    let mut first = [7; 5];
-    let mut second = [7; 5];
-    let begin = [0, TOO_MUCH, TOO_MUCH, TOO_MUCH, TOO_MUCH];
-    model().row_after(step(500), &begin, &mut first);
-    assert!(rt; first == [TOO_MUCH, 1200, 0, 1200, 2100]);
-    model().row_after(step(250), &first, &mut second);
-    assert!(rt; second == [TOO_MUCH, 2400, 600, 2400, 4200]);
+    let mut kept = [7; KEPT];
+    let book = &built_in_book();
+    keep_start(book, &mut kept);
+    keep_step(&model(), 0, step(500, BitSet::only(1)), &mut kept);
+    assert!(rt; kept_cost(book, 1, &kept) == Some(2100));
+    keep_step(&model(), 1, step(250, BitSet::only(6)), &mut kept);
+    assert!(rt; kept_cost(book, 2, &kept) == Some(TOO_MUCH));
 }

@@ -2,15 +2,15 @@ use Rattle.std.proofs.Common.{[], map, sym, subst, arith}
 use Rattle.std.proofs.lemmas.Grind.{common_steps}
 use Rattle.taps.specs.Values.{book_of, call_of}
 use Rattle.taps.proofs.Good.{book_is_good}
-use Rattle.onsets.specs.Laws.{Sound}
 use Rattle.onsets.specs.Onsets.{limit_of}
 use Rattle.onsets.proofs.Sound.{none_sound}
 use Rattle.answers.specs.Laws.{AllBest}
+use Rattle.answers.proofs.Kept.{held_none}
 use Rattle.answers.proofs.Promised.{all_best}
 use Rattle.answers.proofs.answer_calls.Goals as goal
 
-pub answer_each-requires-clause-sound : goal.answer_each-requires-clause-sound
-answer_each-requires-clause-sound c = subst (Sound (limit_of c.clear.new.words)) (sym c.clear.ensures.taps) (none_sound (limit_of c.clear.new.words))
+pub answer_each-requires-clause-held : goal.answer_each-requires-clause-held
+answer_each-requires-clause-held c = held_none _ _ _ c.clear.ensures.taps
 
 pub returns-clause-told : goal.returns-clause-told
 returns-clause-told c = grind (arith, common_steps)

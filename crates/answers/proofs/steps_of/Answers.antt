@@ -1,17 +1,17 @@
-use Rattle.std.proofs.Common.{◌≡◌, ltb, ℕ, ◌<◌, true, length, sym, refl, ◌∙◌, arith}
-use Rattle.std.proofs.lemmas.Bool.Decides.{nat_tests}
+use Rattle.std.proofs.Common.{◌≡◌, ℕ, ◌<◌, true, length, sym, refl, ◌∙◌, arith}
 use Rattle.std.proofs.lemmas.List.Elements.{All-replicate}
-use Rattle.std.proofs.lemmas.List.Folds.{list_all_at}
 use Rattle.std.proofs.lemmas.Option.{none-some, slice_get-get_or}
 use Rattle.bitset.specs.Members.{member}
 use Rattle.taps.specs.Calls.{gaps}
+use Rattle.taps.specs.Promise.{small}
 use Rattle.taps.proofs.Between.{length_gaps}
 use Rattle.onsets.specs.Onsets.{taps_in}
 use Rattle.onsets.proofs.Words.{few_gaps}
-use Rattle.answers.proofs.Steps.{made_more}
+use Rattle.answers.proofs.Steps.{not_small, made_more}
 use Rattle.answers.proofs.steps_of.Goals as goal
 
 pub loop-i-init : goal.loop-i-init
+unfolding small
 loop-i-init c =
     let size : c.saturating_sub-count.result ≡ length (gaps (taps_in c.args.words.now)) = omega (arith, c.count.ensures, c.saturating_sub-count.ensures, length_gaps (taps_in c.args.words.now)) in
     ((refl, refl, All-replicate (λ s. (k : ℕ) → k < 32 → member s.kinds.bits k ≡ true) 255 _ c.full-kinds.ensures, refl), size, omega (arith, size, few_gaps c.args.words.now))
@@ -22,10 +22,10 @@ returns-in_err-gap c =
     let there = slice_get-get_or (gaps (taps_in c.args.words.now)) c.loop-i.i 0 inside in
     absurd (none-some _ (sym c.in_err-gap.was ∙ c.gap.ensures ∙ there))
 
-pub returns-in_err-gap-2 : goal.returns-in_err-gap-2
-returns-in_err-gap-2 c =
+pub returns-then-gap-from : goal.returns-then-gap-from
+returns-then-gap-from c =
     let inside : c.loop-i.i < length (gaps (taps_in c.args.words.now)) = omega (arith, c.loop-i-test.true, c.loop-i.invariant) in
-    rw c.from_residual-in_err-gap-2.ensures (list_all_at (λ g. ltb g 4294967296) (gaps (taps_in c.args.words.now)) c.loop-i.i 0 inside (grind (arith, nat_tests, slice_get-get_or (gaps (taps_in c.args.words.now)) c.loop-i.i 0 inside)))
+    not_small (gaps (taps_in c.args.words.now)) c.loop-i.i inside (grind (arith, slice_get-get_or (gaps (taps_in c.args.words.now)) c.loop-i.i 0 inside))
 
 pub loop-i-preserved : goal.loop-i-preserved
 loop-i-preserved c =

@@ -1,4 +1,4 @@
-use Rattle.std.proofs.Common.{rules, ◌≡◌, replicate, Some, ◌∙◌, sym, ap, subst, arith}
+use Rattle.std.proofs.Common.{rules, ◌≡◌, length, replicate, Some, refl, ◌∙◌, sym, ap, subst, arith}
 use Rattle.std.specs.Option.{option_map}
 use Rattle.taps.specs.Calls.{after, answer}
 use Rattle.taps.specs.Values.{answer_of, book_of, call_of}
@@ -6,62 +6,51 @@ use Rattle.taps.proofs.Good.{book_is_good}
 use Rattle.onsets.specs.Laws.{Sound}
 use Rattle.onsets.specs.Onsets.{limit_of, taps_in, words_after}
 use Rattle.onsets.proofs.Words.{stands}
-use Rattle.answers.specs.Answered.{rows_after}
-use Rattle.answers.specs.Laws.{Best}
-use Rattle.answers.proofs.Each.{held_after}
-use Rattle.answers.proofs.Promised.{best}
-use Rattle.answers.proofs.Returned.{call_heard, told_back, read_some}
+use Rattle.answers.specs.Answered.{answered, kept_after, rows_after}
+use Rattle.answers.specs.Laws.{Best, AlwaysAnswered}
+use Rattle.answers.proofs.Always.{always_answered}
+use Rattle.answers.proofs.Promised.{best, held_sure}
+use Rattle.answers.proofs.Returned.{call_heard, picked_heard, told_back, read_some}
 use Rattle.desk.proofs.Memory.ask.Goals as goal
-
-pub invariant_of-self : goal.invariant_of-self
-invariant_of-self c =
-    let now = c.args.self.now in
-    let kept = held_after _ _ _ _ _ _ c.answer_bytes-told.ensures.after c.answer_bytes-told.ensures.rows now.sound in
-    record { limit = kept.0 ∙ now.limit; room = omega (arith, kept.1, now.room); sound = subst (λ m. Sound m (taps_in c.answer_bytes-told.new.words)) (sym kept.0) kept.2 }
 
 pub unwrap-requires : goal.unwrap-requires
 unwrap-requires c =
     let now = c.args.self.now in
     let sent = sym c.unwrap-sent.ensures ∙ c.encode_call.ensures.value in
-    (told_back _ _ _ _ (book_is_good c.args.book.now) now.sound (omega arith) c.args.call (replicate 5 0) _ _ _ _ _ (search rules) sent c.encode_call.ensures.after now.room (omega arith) c.answer_bytes-told.ensures.value c.answer_bytes-told.ensures.left).0
+    (told_back _ _ _ _ _ (book_is_good now.book) now.held.sound (omega arith) c.args.call (replicate 5 0) _ _ _ _ _ (search rules) sent c.encode_call.ensures.after now.kept_room now.rows_room (omega arith) (c.answer_bytes-told.ensures.value (held_sure _ _ _ _ now.held)) (c.answer_bytes-told.ensures.left (held_sure _ _ _ _ now.held))).0
 
 pub unwrap-requires-2 : goal.unwrap-requires-2
 unwrap-requires-2 c =
     let now = c.args.self.now in
     let sent = sym c.unwrap-sent.ensures ∙ c.encode_call.ensures.value in
-    let told = told_back _ _ _ _ (book_is_good c.args.book.now) now.sound (omega arith) c.args.call (replicate 5 0) _ _ _ _ _ (search rules) sent c.encode_call.ensures.after now.room (omega arith) c.answer_bytes-told.ensures.value c.answer_bytes-told.ensures.left in
+    let told = told_back _ _ _ _ _ (book_is_good now.book) now.held.sound (omega arith) c.args.call (replicate 5 0) _ _ _ _ _ (search rules) sent c.encode_call.ensures.after now.kept_room now.rows_room (omega arith) (c.answer_bytes-told.ensures.value (held_sure _ _ _ _ now.held)) (c.answer_bytes-told.ensures.left (held_sure _ _ _ _ now.held)) in
     read_some _ _ (c.decode_answer.ensures ∙ told.1 _ c.unwrap.ensures)
 
-pub returns-clause-after : goal.returns-clause-after
-returns-clause-after c =
-    let sent = sym c.unwrap-sent.ensures ∙ c.encode_call.ensures.value in
-    c.answer_bytes-told.ensures.after ∙ ap (words_after c.args.self.now.words) (call_heard c.args.call (replicate 5 0) _ _ (search rules) sent c.encode_call.ensures.after)
-
-pub returns-clause-taps : goal.returns-clause-taps
-returns-clause-taps c =
+pub returns : goal.returns
+unfolding AlwaysAnswered
+returns c =
     let now = c.args.self.now in
-    stands now.words _ (call_of c.args.call) (returns-clause-after c) ∙ ap (λ m. after m (taps_in now.words) (call_of c.args.call)) now.limit
-
-pub returns-clause-rows : goal.returns-clause-rows
-returns-clause-rows c =
-    let now = c.args.self.now in
+    let b = book_of now.book in
+    let call = call_of c.args.call in
+    let good = book_is_good now.book in
     let sent = sym c.unwrap-sent.ensures ∙ c.encode_call.ensures.value in
-    c.answer_bytes-told.ensures.rows
-    ∙ ap (λ h. rows_after (book_of c.args.book.now) (taps_in now.words) h now.rows) (call_heard c.args.call (replicate 5 0) _ _ (search rules) sent c.encode_call.ensures.after)
-
-pub returns-clause-value : goal.returns-clause-value
-returns-clause-value c =
-    let now = c.args.self.now in
-    let b = book_of c.args.book.now in
-    let sent = sym c.unwrap-sent.ensures ∙ c.encode_call.ensures.value in
-    let told = told_back _ _ _ _ (book_is_good c.args.book.now) now.sound (omega arith) c.args.call (replicate 5 0) _ _ _ _ _ (search rules) sent c.encode_call.ensures.after now.room (omega arith) c.answer_bytes-told.ensures.value c.answer_bytes-told.ensures.left in
-    let read : Some (answer_of c.unwrap-2.result) ≡ Some (answer b (limit_of now.words) (taps_in now.words) (call_of c.args.call)) =
+    let is_heard = call_heard c.args.call (replicate 5 0) _ _ (search rules) sent c.encode_call.ensures.after in
+    let always = always_answered b (limit_of now.words) (length now.kept) (length now.rows) call good (omega arith) now.kept_room now.rows_room in
+    let test = answered b (limit_of now.words) (length now.kept) (length now.rows) in
+    let stored = c.answer_bytes-told.ensures.after ∙ picked_heard test (words_after now.words) now.words _ call is_heard always in
+    let filled = c.answer_bytes-told.ensures.kept now.held ∙ picked_heard test (λ h. kept_after b (limit_of now.words) (taps_in now.words) h now.kept) now.kept _ call is_heard always in
+    let made = c.answer_bytes-told.ensures.rows (held_sure _ _ _ _ now.held) ∙ picked_heard test (λ h. rows_after b (taps_in now.words) h now.rows) now.rows _ call is_heard always in
+    let told = told_back _ _ _ _ _ good now.held.sound (omega arith) c.args.call (replicate 5 0) _ _ _ _ _ (search rules) sent c.encode_call.ensures.after now.kept_room now.rows_room (omega arith) (c.answer_bytes-told.ensures.value (held_sure _ _ _ _ now.held)) (c.answer_bytes-told.ensures.left (held_sure _ _ _ _ now.held)) in
+    let read : Some (answer_of c.unwrap-2.result) ≡ Some (answer b (limit_of now.words) (taps_in now.words) call) =
     sym (ap (option_map answer_of) c.unwrap-2.ensures) ∙ c.decode_answer.ensures ∙ told.1 _ c.unwrap.ensures in
-    let same : answer_of c.unwrap-2.result ≡ answer b (limit_of now.words) (taps_in now.words) (call_of c.args.call) = cc in
-    same ∙ ap (λ m. answer b m (taps_in now.words) (call_of c.args.call)) now.limit
-
-pub returns-clause-best : goal.returns-clause-best
-returns-clause-best c =
-    let now = c.args.self.now in
-    let sound = subst (λ m. Sound m (taps_in now.words)) now.limit now.sound in
-    subst (Best (book_of c.args.book.now) (taps_in now.words) (call_of c.args.call)) (sym (returns-clause-value c)) (best (book_of c.args.book.now) 256 (taps_in now.words) (call_of c.args.call) (book_is_good c.args.book.now) sound (omega arith))
+    let same : answer_of c.unwrap-2.result ≡ answer b (limit_of now.words) (taps_in now.words) call = cc in
+    let value : answer_of c.unwrap-2.result ≡ answer b 256 (taps_in now.words) call = same ∙ ap (λ m. answer b m (taps_in now.words) call) now.limit in
+    record {
+      book = refl;
+      after = stored;
+      taps = stands now.words _ call stored ∙ ap (λ m. after m (taps_in now.words) call) now.limit;
+      kept = filled ∙ ap (λ m. kept_after b m (taps_in now.words) call now.kept) now.limit;
+      rows = made;
+      value = value;
+      best = subst (Best b (taps_in now.words) call) (sym value) (best b 256 (taps_in now.words) call good (subst (λ m. Sound m (taps_in now.words)) now.limit now.held.sound) (omega arith));
+    }
