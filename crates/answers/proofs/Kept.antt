@@ -7,7 +7,7 @@ use Rattle.std.proofs.lemmas.List.Elements.{All-cons}
 use Rattle.std.proofs.lemmas.Option.{none-some}
 use Rattle.taps.specs.Readings.{pick, Book}
 use Rattle.taps.specs.Calls as calls
-use Rattle.taps.specs.Calls.{taps, back, cost, read, garbled, gaps, last_of, but_last, turned, changed, after}
+use Rattle.taps.specs.Calls.{taps, back, garbled, gaps, last_of, but_last, turned, changed, after}
 use Rattle.taps.specs.Promise.{small}
 use Rattle.taps.proofs.Between.{length_gaps, gaps_more, gaps_fewer}
 use Rattle.octets.specs.Bytes.{StartsWith, room, written}
@@ -38,22 +38,17 @@ module _ (b : Book) where
       starts_first (kept_of b (but_last (t ∷ u ∷ us))) _ ws (subst (λ xs. StartsWith xs ws) (ap (kept_rows b) g.1 ∙ kept_more b (gaps (but_last (t ∷ u ∷ us))) g.0) h)
 
   module _ (most : ℕ) (ts ws : List ℕ) (starts : StartsWith (kept_of b ts) ws) where
-    -- a call that is no tap changes nothing of it
+    -- a call that takes a tap back, or leaves the taps as they are, changes nothing of it
     pub kept_back : ws ≡ kept_after b most ts back ws
     unfolding changed
     kept_back = grind (arith, nat_tests, starts_same (kept_of b ts) ws starts, starts_same (kept_of b (but_last ts)) ws (fewer_kept ts ws starts))
 
-    pub kept_cost : ws ≡ kept_after b most ts cost ws
-    unfolding turned changed
-    kept_cost = starts_same (kept_of b ts) ws starts
-
-    pub kept_read : ws ≡ kept_after b most ts read ws
-    unfolding turned changed
-    kept_read = starts_same (kept_of b ts) ws starts
+    pub kept_asked : (c : calls.Call) → changed ts c ≡ ts → ws ≡ kept_after b most ts c ws
+    kept_asked c same = grind (arith, nat_tests, starts_same (kept_of b ts) ws starts)
 
     pub kept_garbled : (p : ℕ) → ws ≡ kept_after b most ts (garbled p) ws
-    unfolding turned
-    kept_garbled p = starts_same (kept_of b ts) ws starts
+    unfolding changed
+    kept_garbled p = kept_asked (garbled p) refl
 
     -- one row more is kept
     pub kept_tap : (t : ℕ) (new : List ℕ) → turned most ts (taps t) ≡ 0 → new ≡ written (kept_of b (ts ++ t ∷ [])) ws → new ≡ kept_after b most ts (taps t) ws

@@ -58,6 +58,14 @@ adds most ts calls.cost = false
 adds most ts calls.read = false
 adds most ts (calls.garbled p) = false
 
+-- the call asks for the best reading, which is found by rows that are made anew
+abbrev pub reads_rows : calls.Call → Bool
+reads_rows (calls.taps t) = false
+reads_rows calls.back = false
+reads_rows calls.cost = false
+reads_rows calls.read = true
+reads_rows (calls.garbled p) = false
+
 -- the answer of the definitions; or none, where it is not answered and only there
 abbrev pub Answered : Book → ℕ → ℕ → ℕ → List ℕ → Call → Option Answer → Type 0
 Answered b most kept rows ts c (Some a) = (answered b most kept rows (call_of c) ≡ true) × (answer_of a ≡ answer b most ts (call_of c))

@@ -21,7 +21,7 @@ ghost use Rattle.onsets.specs.Onsets.{limit_of, taps_in, words_after};
 ghost use Rattle.plain.specs.Restricted.{Free, gaps_of};
 ghost use Rattle.plain.specs.Rows.{kept_size, rows_size};
 ghost use Rattle.wire.specs.Wire.{call_in};
-ghost use Rattle.answers.specs.Answered.{Answerable, Held, IsAnswer, adds, heard, is_answered, kept_of, kept_ran, kept_then, left_bytes, roomy, rows_left, rows_ran, rows_then, told_bytes};
+ghost use Rattle.answers.specs.Answered.{Answerable, Held, IsAnswer, adds, heard, is_answered, kept_of, kept_ran, kept_then, left_bytes, reads_rows, roomy, rows_left, rows_ran, rows_then, told_bytes};
 ghost use Rattle.answers.specs.Laws.{AllBest, AlwaysAnswered, Best, BestIn};
 
 use bitset::BitSet;
@@ -55,6 +55,7 @@ pub fn answer_bytes(
     ensures taps { taps_in words.new ≡ pick (is_answered (book_of book.now) words.old kept.old rows.old (heard (call_in request.now))) (after (limit_of words.old) (taps_in words.old) (heard (call_in request.now))) (taps_in words.old) }
     ensures kept { Held (book_of book.now) words.old kept.old → kept.new ≡ pick (is_answered (book_of book.now) words.old kept.old rows.old (heard (call_in request.now))) (kept_then (book_of book.now) words.old (heard (call_in request.now)) kept.old) kept.old }
     ensures still { adds (limit_of words.old) (taps_in words.old) (heard (call_in request.now)) ≡ false → kept.new ≡ kept.old }
+    ensures unread { reads_rows (heard (call_in request.now)) ≡ false → rows.new ≡ rows.old }
     ensures rows { Answerable (book_of book.now) words.old kept.old (heard (call_in request.now)) → rows.new ≡ pick (is_answered (book_of book.now) words.old kept.old rows.old (heard (call_in request.now))) (rows_then (book_of book.now) words.old (heard (call_in request.now)) rows.old) rows.old }
     ensures held { Held (book_of book.now) words.old kept.old → Held (book_of book.now) words.new kept.new }
     ensures value { Answerable (book_of book.now) words.old kept.old (heard (call_in request.now)) → result ≡ told_bytes (book_of book.now) words.old kept.old rows.old (heard (call_in request.now)) out.old }
@@ -83,6 +84,7 @@ pub fn answer_call(
     ensures taps { taps_in words.new ≡ pick (is_answered (book_of book.now) words.old kept.old rows.old (call_of call)) (after (limit_of words.old) (taps_in words.old) (call_of call)) (taps_in words.old) }
     ensures kept { Held (book_of book.now) words.old kept.old → kept.new ≡ pick (is_answered (book_of book.now) words.old kept.old rows.old (call_of call)) (kept_then (book_of book.now) words.old (call_of call) kept.old) kept.old }
     ensures still { adds (limit_of words.old) (taps_in words.old) (call_of call) ≡ false → kept.new ≡ kept.old }
+    ensures unread { reads_rows (call_of call) ≡ false → rows.new ≡ rows.old }
     ensures rows { Answerable (book_of book.now) words.old kept.old (call_of call) → rows.new ≡ pick (is_answered (book_of book.now) words.old kept.old rows.old (call_of call)) (rows_then (book_of book.now) words.old (call_of call) rows.old) rows.old }
     ensures held { Held (book_of book.now) words.old kept.old → Held (book_of book.now) words.new kept.new }
     ensures value { Answerable (book_of book.now) words.old kept.old (call_of call) → IsAnswer (book_of book.now) words.old kept.old rows.old call result }
@@ -208,6 +210,7 @@ fn best_reading(book: &Book, words: &[u64], kept: &[u64], rows: &mut [u64]) -> O
     ensures rows { Held (book_of book.now) words.now kept.now → rows_size (book_of book.now) (limit_of words.now - 1) ≤ length rows.old → rows.new ≡ rows_left (book_of book.now) (gaps (taps_in words.now)) rows.old }
 {
     let steps = steps_of(words)?;
+    // With no tap there is no row that is kept, and with one there is nothing to read.
     if steps.count == 0 {
         let all = [Read { kind: 0, tempo: 0 }; MOST_GAPS];
         return Some(Listed { all, count: 0 });

@@ -8,7 +8,7 @@
 // and `first_reading` first.
 #![tactic(auto)]
 
-ghost use Rattle.std.specs.Prelude.{◌≡◌, ℕ, ◌+◌, ◌*◌, ◌<◌, min, List, [], ◌∷◌, ◌++◌, Some, None, length, nat_le, MatchOption, slice_index};
+ghost use Rattle.std.specs.Prelude.{◌≡◌, ℕ, ◌+◌, ◌*◌, ◌<◌, min, List, [], ◌∷◌, ◌++◌, Some, None, length, nat_le, false, ◌&&◌, MatchOption, slice_index};
 ghost use Rattle.std.specs.Option.{is_some, option_map};
 ghost use Rattle.octets.specs.Bytes.{StartsWith, room, written};
 ghost use Rattle.taps.specs.Items.{items};
@@ -96,6 +96,7 @@ impl Trellis for Plain {
         let (start, tempi) = row.split_at_mut(1);
         start[0] = TOO_MUCH;
         tempi.copy_from_slice(&before[1..]);
+        // Words that no desk left may hold more.
         lower(TOO_MUCH, tempi);
         shift(self.book.tempi.list.as_slice(), self.book.change, tempi);
         lower(before[0], tempi);
@@ -160,7 +161,8 @@ pub fn kept_cost(book: &Book, done: usize, kept: &[u64]) -> Option<u64>
 }
 
 // Reads the gaps that are kept so that they cost that, the first such reading; and writes at the front of `words` what
-// the gaps from each one on cost after each tempo. None where these rows don't fit.
+// the gaps from each one on cost after each tempo. Nothing where these rows don't fit, or where fewer words are there than
+// are kept of so many gaps.
 pub fn first_reading(
     book: &Book,
     steps: &Listed<Step, MOST_GAPS>,
@@ -169,6 +171,7 @@ pub fn first_reading(
 ) -> Option<Reading>
     requires { Free (items steps.now) }
     ensures value { StartsWith (kept_rows (book_of book.now) (gaps_of (items steps.now))) kept.now → option_map reading_of result ≡ option_map (λ _. reading (book_of book.now) 0 (gaps_of (items steps.now))) (room (rows (book_of book.now) (gaps_of (items steps.now))) words.old) }
+    ensures short { (nat_le (kept_size (book_of book.now) (length (items steps.now))) (length kept.now) && nat_le (rows_size (book_of book.now) (length (items steps.now))) (length words.old)) ≡ false → (result ≡ None) × (words.new ≡ words.old) }
     ensures after { StartsWith (kept_rows (book_of book.now) (gaps_of (items steps.now))) kept.now → words.new ≡ written (rows (book_of book.now) (gaps_of (items steps.now))) words.old }
 {
     let model = Plain { book: *book };

@@ -1,13 +1,13 @@
-use Rattle.std.proofs.Common.{◌-◌, ◌≤◌, length, ap, subst, arith}
+use Rattle.std.proofs.Common.{◌-◌, ◌≤◌, length, refl, ap, subst, arith}
 use Rattle.std.proofs.lemmas.Bool.Decides.{nat_tests}
-use Rattle.taps.specs.Calls.{turned, told, place}
+use Rattle.taps.specs.Calls.{cost, read, changed, turned, told, place}
 use Rattle.taps.specs.Values.{book_of, call_of}
 use Rattle.taps.proofs.Good.{book_is_good}
 use Rattle.onsets.specs.Onsets.{limit_of, taps_in}
 use Rattle.onsets.proofs.Words.{taps_after}
 use Rattle.plain.specs.Rows.{kept_size, rows_size}
 use Rattle.answers.specs.Answered.{Answerable}
-use Rattle.answers.proofs.Kept.{kept_back, kept_cost, kept_read, held_after}
+use Rattle.answers.proofs.Kept.{kept_back, kept_asked, held_after}
 use Rattle.answers.proofs.Promised.{best_told}
 use Rattle.answers.proofs.answer_call.Goals as goal
 
@@ -37,7 +37,8 @@ pub returns-in-Cost-clause-taps : goal.returns-in-Cost-clause-taps
 returns-in-Cost-clause-taps c = grind (arith, nat_tests, taps_after c.args.words.now (call_of c.args.call))
 
 pub returns-in-Cost-clause-kept : goal.returns-in-Cost-clause-kept
-returns-in-Cost-clause-kept c = λ held. grind (arith, nat_tests, kept_cost (book_of c.args.book.now) (limit_of c.args.words.now) (taps_in c.args.words.now) c.args.kept.now held.starts)
+unfolding changed
+returns-in-Cost-clause-kept c = λ held. grind (arith, nat_tests, kept_asked (book_of c.args.book.now) (limit_of c.args.words.now) (taps_in c.args.words.now) c.args.kept.now held.starts cost refl)
 
 pub returns-in-Cost-clause-value : goal.returns-in-Cost-clause-value
 unfolding told turned
@@ -53,7 +54,8 @@ pub returns-in-Read-clause-taps : goal.returns-in-Read-clause-taps
 returns-in-Read-clause-taps c = grind (arith, nat_tests, taps_after c.args.words.now (call_of c.args.call))
 
 pub returns-in-Read-clause-kept : goal.returns-in-Read-clause-kept
-returns-in-Read-clause-kept c = λ held. grind (arith, nat_tests, kept_read (book_of c.args.book.now) (limit_of c.args.words.now) (taps_in c.args.words.now) c.args.kept.now held.starts)
+unfolding changed
+returns-in-Read-clause-kept c = λ held. grind (arith, nat_tests, kept_asked (book_of c.args.book.now) (limit_of c.args.words.now) (taps_in c.args.words.now) c.args.kept.now held.starts read refl)
 
 pub returns-in-Read-clause-value : goal.returns-in-Read-clause-value
 unfolding told turned
