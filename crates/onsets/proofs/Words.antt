@@ -8,7 +8,7 @@ use Rattle.taps.proofs.Ends.{last_is, but_last_is}
 use Rattle.onsets.specs.Onsets.{limit_of, taps_in, last_in, stored, words_after}
 
 -- how many taps there are
-count_is : (ws : List ℕ) → length (taps_in ws) ≡ min (get_or ws 0 0) (limit_of ws)
+pub count_is : (ws : List ℕ) → length (taps_in ws) ≡ min (get_or ws 0 0) (limit_of ws)
 count_is ws = grind (arith, common_steps)
 
 -- and no more gaps than a reading may have

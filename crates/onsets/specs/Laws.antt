@@ -1,8 +1,8 @@
 -- What holds of taps in words, whatever is called. Each is a statement: a type, whose proof is owed by the function whose contract names it. Assumes nothing.
 --
 -- words_ran: the words after a list of calls, one after another. rises: each tap is later than the one before.
--- Sound: taps as a desk holds them.
-use Rattle.std.specs.Prelude.{◌≡◌, ℕ, ◌≤◌, Bool, true, ◌&&◌, List, [], ◌∷◌, length, nat_lt}
+-- Sound: taps as a desk holds them. sound_words: whether words hold such taps, and count no more than there is room for.
+use Rattle.std.specs.Prelude.{◌≡◌, ℕ, ◌≤◌, Bool, true, ◌&&◌, List, [], ◌∷◌, length, nat_le, nat_lt, slice_index}
 use Rattle.taps.specs.Calls.{Call, gaps, ran}
 use Rattle.taps.specs.Promise.{small}
 use Rattle.onsets.specs.Onsets.{limit_of, taps_in, words_after}
@@ -21,6 +21,10 @@ pub record Sound (most : ℕ) (ts : List ℕ) : Type 0 where
   pub few : length ts ≤ most
   pub rising : rises ts ≡ true
   pub timely : small ts ≡ true
+
+-- whether words are as a desk leaves them: they count no more taps than there is room for, and the taps are sound. The times past the count may be any
+abbrev pub sound_words : List ℕ → Bool
+sound_words ws = nat_le (slice_index ws 0) (limit_of ws) && (rises (taps_in ws) && small (taps_in ws))
 
 -- words and the definitions of calls go the same way: the words after any calls stand for the taps after them
 unfoldable pub Follows : Type 0

@@ -3,15 +3,17 @@
 // The first word has how many taps are held, and those after it their times in ms. The limit is how many words there are
 // behind the first, and never above 256. `specs/Onsets.antt` says which taps words stand for (`taps_in`) and what a call
 // leaves in every word (`words_after`). Every slice of words stands for some taps, so nothing is asked of the words that
-// are lent: whatever they hold, each function answers by the taps that they stand for. Read `check` first, and `append`.
+// are lent: whatever they hold, each function answers by the taps that they stand for, and `is_sound` tells words that a
+// desk leaves from others. Read `check` first, and `append`.
 #![tactic(auto)]
 
-ghost use Rattle.std.specs.Prelude.{◌≡◌, ◌+◌, ◌-◌, ◌<◌, ◌≤◌, true, false, [], length, replicate, MatchOption, slice_index};
+ghost use Rattle.std.specs.Prelude.{◌≡◌, ◌+◌, ◌-◌, ◌<◌, ◌≤◌, true, false, ◌&&◌, [], length, replicate, MatchOption, slice_index};
 ghost use Rattle.std.specs.List.{slice_get};
 ghost use Rattle.taps.specs.Calls.{after, back, gaps, taps};
+ghost use Rattle.taps.specs.Promise.{small};
 ghost use Rattle.octets.specs.Bytes.{room, written};
 ghost use Rattle.onsets.specs.Onsets.{Taken, is_later, last_in, limit_of, taps_in, words_after};
-ghost use Rattle.onsets.specs.Laws.{Follows, KeepsLimit, SmallGaps, StaysSound};
+ghost use Rattle.onsets.specs.Laws.{Follows, KeepsLimit, SmallGaps, StaysSound, rises, sound_words};
 
 use taps::call::{MOST_TAPS, TIME_END};
 use taps::refusal::Refusal;
@@ -115,6 +117,19 @@ pub fn write_gaps(words: &[u64], out: &mut [u64]) -> Option<usize>
     Some(size)
 }
 
+// Whether the words hold taps as a desk leaves them: no more than there is room for, each later than the one before,
+// and all before 2^24 ms.
+#[tactic(auto, unfolding(taps::specs::Promise::small, crate::specs::Laws::rises))]
+pub fn is_sound(words: &[u64]) -> bool
+    ensures { result ≡ sound_words words.now }
+{
+    let Some((first, times)) = words.split_first() else {
+        return true;
+    };
+    let count = *first as usize;
+    count <= limit(words) && are_sound(&times[..count])
+}
+
 // Whatever is called, the words stand for the taps that the definitions of calls have, and have room for as many; the
 // taps stay sound, and their gaps small.
 pub fn held_stands()
@@ -144,6 +159,25 @@ fn next_number(words: &[u64]) -> Option<usize>
 {
     let count = count(words);
     (count < limit(words)).then_some(count)
+}
+
+// Whether each time is later than the one before, and all are before 2^24 ms: where they rise, the last tells of all.
+fn are_sound(times: &[u64]) -> bool
+    ensures { result ≡ (rises times.now && small times.now) }
+{
+    rise(times) && times.last().is_none_or(|last| *last < u64::from(TIME_END))
+}
+
+// Whether each time is later than the one before. It looks at all of them, so that a processor can compare several at once.
+#[tactic(auto, using(crate::proofs::Sound::rises_first, crate::proofs::Sound::rises_next))]
+fn rise(times: &[u64]) -> bool
+    ensures { result ≡ rises times.now }
+{
+    let mut rising = true;
+    for i in 1..times.len() {
+        rising &= times[i - 1] < times[i];
+    }
+    rising
 }
 
 #[tactic(auto, using(taps::proofs::Between::length_gaps))]

@@ -1,5 +1,5 @@
-// Taps that are taken, each refusal and what it leaves, words that no desk left, and gaps.
-use crate::{append, clear, count, gap, last, limit, take_back, write_gaps};
+// Taps that are taken, each refusal and what it leaves, words that no desk left and how they are told, and gaps.
+use crate::{append, clear, count, gap, is_sound, last, limit, take_back, write_gaps};
 use taps::refusal::Refusal;
 
 #[test]
@@ -49,6 +49,26 @@ fn words_that_no_desk_left(rt: HostRuntime) {
     assert_eq!(rt; limit(&[]), 0);
     assert!(rt; append(&mut [], 1) == Err(Refusal::TooManyTaps));
     assert!(rt; take_back(&mut []) == Err(Refusal::NoTap));
+}
+
+#[test]
+fn words_as_a_desk_leaves_them(rt: HostRuntime) {
+    assert!(rt; is_sound(&[]));
+    assert!(rt; is_sound(&[0]));
+    assert!(rt; is_sound(&[2, 0, 16777215]));
+    assert!(rt; is_sound(&[1, 10, 10, 16777216]));
+    assert!(rt; !is_sound(&[2, 10, 10]));
+    assert!(rt; !is_sound(&[3, 10, 20, 19]));
+    assert!(rt; !is_sound(&[2, 10, 16777216]));
+    assert!(rt; !is_sound(&[3, 10, 20]));
+    // As many taps as there may be, and then one more, in words that are long enough for it.
+    let mut many = [0; 300];
+    for (i, word) in many.iter_mut().enumerate() {
+        *word = i as u64 + 256;
+    }
+    assert!(rt; is_sound(&many));
+    many[0] = 257;
+    assert!(rt; !is_sound(&many));
 }
 
 #[test]

@@ -1,5 +1,6 @@
--- The gaps between taps, by their places. Assumes nothing.
+-- The gaps between taps, by their places, and how many reads they have. Assumes nothing.
 use Rattle.std.proofs.Common.{◌≡◌, ℕ, zero, suc, ◌-◌, ◌<◌, List, [], ◌∷◌, ◌++◌, length, get_or, refl, ap, arith}
+use Rattle.taps.specs.Readings.{Book, reading}
 use Rattle.taps.specs.Calls.{gaps, last_of, but_last}
 
 -- one less than there are taps
@@ -26,3 +27,9 @@ pub gaps_fewer : (t u : ℕ) (us : List ℕ) → (g : ℕ) × (gaps (t ∷ u ∷
 unfolding gaps but_last
 gaps_fewer t u [] = (u - t, refl)
 gaps_fewer t u (v ∷ vs) = let rest = gaps_fewer u v vs in (rest.0, ap (λ gs. (u - t) ∷ gs) rest.1)
+
+-- and a reading has one read for each gap
+pub length_reading : (b : Book) (gs : List ℕ) (before : ℕ) → length (reading b before gs) ≡ length gs
+unfolding reading
+length_reading b [] before = refl
+length_reading b (g ∷ gs) before = ap suc (length_reading b gs _)

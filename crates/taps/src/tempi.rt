@@ -40,12 +40,11 @@ impl Tempi {
     }
 }
 
-// Whether each tempo is within bounds and larger than the one before.
+// Whether each tempo is within bounds and larger than the one before: where they rise, the first and the last tell of all.
 fn are_good(tempi: &[u16]) -> bool
     ensures { result ≡ good_tempi tempi.now }
 {
     tempi.is_sorted_by(|a, b| a < b)
-        && tempi
-            .iter()
-            .all(|tempo| (FASTEST..=SLOWEST).contains(tempo))
+        && tempi.first().is_none_or(|first| FASTEST <= *first)
+        && tempi.last().is_none_or(|last| *last <= SLOWEST)
 }
