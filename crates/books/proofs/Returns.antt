@@ -1,12 +1,13 @@
 -- What was written reads back as the same, and so no two that differ are written alike.
-use Rattle.std.proofs.Common.{◌≡◌, ℕ, ◌+◌, ◌*◌, ◌≤◌, true, List, [], ◌∷◌, ◌++◌, map, length, get_or, drop, sym, refl, ap, ◌∙◌, arith}
+use Rattle.std.proofs.Common.{◌≡◌, ℕ, ◌+◌, ◌*◌, ◌≤◌, true, List, [], ◌∷◌, ◌++◌, map, length, get_or, take, drop, Some, sym, refl, ap, ◌∙◌, arith}
 use Rattle.std.specs.List.{flat_map}
 use Rattle.std.proofs.lemmas.List.{append_assoc, drop_at, drop-drop, get_or_at, length-append}
 use Rattle.std.proofs.lemmas.Bool.{ltb-true, and_parts}
-use Rattle.taps.specs.Readings.{Kind}
-use Rattle.taps.specs.Promise.{good_kinds, good_tempi}
-use Rattle.octets.specs.Bytes.{two, four, chunks, number}
+use Rattle.taps.specs.Readings.{Kind, Book}
+use Rattle.taps.specs.Promise.{GoodBook, good_kinds, good_tempi}
+use Rattle.octets.specs.Bytes.{two, four, chunks, number, room, written}
 use Rattle.octets.proofs.Chunks.{chunks_joined, length_joined}
+use Rattle.octets.proofs.Front.{read_back}
 use Rattle.octets.proofs.Numbers.{two_back, four_back}
 use Rattle.octets.proofs.Found.{same_from_bytes}
 use Rattle.books.specs.Books.{book_bytes, book_in, kind_bytes, kind_in}
@@ -53,6 +54,10 @@ books_return b good =
     ∙ (tempi_back b.tempi good.5).1 in
     let change : number (drop (1 + (1 + 5 * n) + 2 * m) bs) ≡ b.change = ap number past-tempi ∙ four_back b.change (omega (arith, good.6)) in
     grind (arith, length_book b)
+
+-- what a book was written as is read in as many places from the front
+pub book_read : (b : Book) (old out : List ℕ) (n : ℕ) → GoodBook b → Some n ≡ room (book_bytes b) old → out ≡ written (book_bytes b) old → book_in (take n out) ≡ Some b
+book_read b old out n good size left = ap book_in (read_back (book_bytes b) old out n size left) ∙ books_return b good
 
 pub books_apart : BooksApart
 books_apart b c h k = same_from_bytes book_in book_bytes b c (books_return b h) (books_return c k)

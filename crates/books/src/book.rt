@@ -23,6 +23,12 @@ const KIND_SIZE: usize = 5;
 const TEMPO_SIZE: usize = 2;
 // What a change costs.
 const CHANGE_SIZE: usize = 4;
+// The most bytes that a book has: 294.
+pub const MOST_BYTES: usize = 1
+    + KIND_SIZE * MOST_KINDS
+    + 1
+    + TEMPO_SIZE * MOST_TEMPI
+    + CHANGE_SIZE;
 
 // The book that the bytes are, where they are one.
 pub fn decode_book(bytes: &[u8]) -> Result<Book, Refusal>

@@ -25,6 +25,12 @@ bytes_drop n bs all i = grind (arith, common_steps, all (n + i))
 pub bytes_take : (n : ℕ) (bs : List ℕ) → Bytes bs → Bytes (take n bs)
 bytes_take n bs all i = grind (arith, common_steps, all i, get_or-take, get_or_past)
 
+-- and so are bytes behind bytes
+pub bytes_append : (xs ys : List ℕ) → Bytes xs → Bytes ys → Bytes (xs ++ ys)
+bytes_append [] ys first rest i = rest i
+bytes_append (x ∷ xs) ys first rest zero = first 0
+bytes_append (x ∷ xs) ys first rest (suc i) = bytes_append xs ys (λ j. first (suc j)) rest i
+
 -- pieces of w bytes that are written back one by one are the bytes that they were cut from
 pub joined_chunks : {X : Type 0} (f : List ℕ → X) (g : X → List ℕ) (w : ℕ) → ((p : List ℕ) → length p ≡ w → Bytes p → g (f p) ≡ p) →
     (n : ℕ) (bs : List ℕ) → w * n ≤ length bs → Bytes bs → flat_map g (chunks f w n bs) ≡ take (w * n) bs

@@ -30,6 +30,10 @@ all_written old out bs n front size fits = (grind (arith, common_steps), grind (
 pub written_front : (old bs front rest : List ℕ) (n : ℕ) → length bs ≡ n → n ≤ length old → front ≡ take n old → rest ≡ drop n old → written bs front ++ rest ≡ written bs old
 written_front old bs front rest n size fits first last = grind (arith, common_steps)
 
+-- nothing that is written makes a slice longer or shorter
+pub written_size : (xs old : List ℕ) → length (written xs old) ≡ length old
+written_size xs old = grind (arith, nat_tests, common_steps)
+
 -- what was written is read again in as many places from the front
 pub read_back : (bs old out : List ℕ) (n : ℕ) → Some n ≡ room bs old → out ≡ written bs old → take n out ≡ bs
 read_back bs old out n size left = grind (arith, nat_tests, common_steps)

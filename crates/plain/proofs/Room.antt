@@ -35,6 +35,13 @@ module _ (b : Book) where
       let same : state_count b ≤ state_count b = omega arith in
       omega (arith, rows_many gs, mul-le-mul {n₂ = gaps + 1} {m₂ = state_count b} fewer same)
 
+  -- and the rows take no more words than what is kept of as many
+  pub rows_fewer : (gaps : ℕ) → rows_size b gaps ≤ kept_size b gaps
+  rows_fewer gaps =
+      let same : gaps ≤ gaps = omega arith in
+      let wider : state_count b ≤ state_count b + tempo_count b = omega arith in
+      omega (arith, mul-le-mul {n₂ = gaps} {m₂ = state_count b + tempo_count b} same wider)
+
   pub kept_sizes : (fewer more : ℕ) → fewer ≤ more → kept_size b fewer ≤ kept_size b more
   kept_sizes fewer more few =
       let same : state_count b + tempo_count b ≤ state_count b + tempo_count b = omega arith in

@@ -1,5 +1,5 @@
 // Calls as bytes.
-ghost use Rattle.std.specs.Prelude.{◌≡◌};
+ghost use Rattle.std.specs.Prelude.{◌≡◌, IfSome, Ok, take};
 ghost use Rattle.octets.specs.Bytes.{room, written};
 ghost use Rattle.wire.specs.Wire.{alone, call_bytes, call_in, tap_in};
 
@@ -33,10 +33,11 @@ pub fn decode_call(bytes: &[u8]) -> Result<Call, Refusal>
     }
 }
 
-// Writes a call, and says how many bytes it took.
+// Writes a call, and says how many bytes it took; these read back as the call.
 pub fn encode_call(call: Call, out: &mut [u8]) -> Option<usize>
     ensures value { result ≡ room (call_bytes call) out.old }
     ensures after { out.new ≡ written (call_bytes call) out.old }
+    ensures back { IfSome result (λ n. call_in (take n out.new) ≡ Ok call) }
 {
     match call {
         Call::Tap(time) => {
