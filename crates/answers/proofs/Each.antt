@@ -1,11 +1,9 @@
 -- Calls that are answered one after another, over the same words. Assumes nothing.
 use Rattle.std.proofs.Common.{◌≡◌, ℕ, ◌≤◌, List, [], ◌∷◌, ◌++◌, length, append-nil, append_assoc, refl, sym, ap, ◌∙◌, arith}
-use Rattle.std.proofs.lemmas.Bool.Decides.{nat_tests}
-use Rattle.std.proofs.lemmas.Grind.{common_steps}
 use Rattle.taps.specs.Readings.{Book}
 use Rattle.taps.specs.Calls as calls
 use Rattle.taps.specs.Calls.{Answer, gaps, after, answer, answers}
-use Rattle.octets.specs.Bytes.{written}
+use Rattle.octets.proofs.Front.{written_size}
 use Rattle.onsets.specs.Onsets.{limit_of, taps_in, words_after}
 use Rattle.onsets.specs.Laws.{words_ran}
 use Rattle.onsets.proofs.Sound.{after_limit}
@@ -13,19 +11,16 @@ use Rattle.onsets.proofs.Words.{taps_after}
 use Rattle.answers.specs.Answered.{Held, kept_of, kept_after, kept_ran, rows_left, rows_after, rows_ran}
 
 -- no call makes the words for rows more or fewer
-written_size : (xs old : List ℕ) → length (written xs old) ≡ length old
-written_size xs old = grind (arith, nat_tests, common_steps)
-
 left_size : (b : Book) (gs old : List ℕ) → length (rows_left b gs old) ≡ length old
 left_size b [] old = refl
 left_size b (g ∷ gs) old = written_size _ old
 
-rows_size : (b : Book) (ts : List ℕ) (c : calls.Call) (old : List ℕ) → length (rows_after b ts c old) ≡ length old
-rows_size b ts (calls.taps t) old = refl
-rows_size b ts calls.back old = refl
-rows_size b ts calls.cost old = refl
-rows_size b ts calls.read old = left_size b (gaps ts) old
-rows_size b ts (calls.garbled p) old = refl
+pub rows_length : (b : Book) (ts : List ℕ) (c : calls.Call) (old : List ℕ) → length (rows_after b ts c old) ≡ length old
+rows_length b ts (calls.taps t) old = refl
+rows_length b ts calls.back old = refl
+rows_length b ts calls.cost old = refl
+rows_length b ts calls.read old = left_size b (gaps ts) old
+rows_length b ts (calls.garbled p) old = refl
 
 -- after a call there is as much room
 as_roomy : (b : Book) (words kept rows words_new kept_new rows_new : List ℕ) (c : calls.Call) → words_new ≡ words_after words c →
@@ -34,7 +29,7 @@ as_roomy : (b : Book) (words kept rows words_new kept_new rows_new : List ℕ) (
 as_roomy b words kept rows words_new kept_new rows_new c stored filled made = (
   ap limit_of stored ∙ after_limit words c,
   ap length filled ∙ written_size (kept_of b (after (limit_of words) (taps_in words) c)) kept,
-  ap length made ∙ rows_size b (taps_in words) c rows,
+  ap length made ∙ rows_length b (taps_in words) c rows,
 )
 
 module _ (b : Book) (start first space : List ℕ) (cs : List calls.Call) where

@@ -8,7 +8,7 @@
 // `answer_calls`.
 #![tactic(auto)]
 
-ghost use Rattle.std.specs.Prelude.{◌≡◌, ◌-◌, ◌<◌, ◌≤◌, true, false, ◌&&◌, [], ◌∷◌, ◌++◌, length, map, take, drop, replicate, Some, None, nat_le, IfSome, MatchOption};
+ghost use Rattle.std.specs.Prelude.{◌≡◌, ◌-◌, ◌<◌, ◌≤◌, true, false, ◌&&◌, [], ◌∷◌, ◌++◌, length, map, take, drop, replicate, Some, None, nat_le, IfNone, IfSome, MatchOption};
 ghost use Rattle.std.specs.Option.{IsSome, option_map};
 ghost use Rattle.octets.specs.Bytes.{written};
 ghost use Rattle.taps.specs.Calls.{after, answer, answers, gaps, taps, turned};
@@ -61,6 +61,7 @@ pub fn answer_bytes(
     ensures value { Answerable (book_of book.now) words.old kept.old (heard (call_in request.now)) → result ≡ told_bytes (book_of book.now) words.old kept.old rows.old (heard (call_in request.now)) out.old }
     ensures left { Answerable (book_of book.now) words.old kept.old (heard (call_in request.now)) → out.new ≡ left_bytes (book_of book.now) words.old kept.old rows.old (heard (call_in request.now)) out.old }
     ensures bound { IfSome result (λ n. n ≤ length out.old) }
+    ensures untold { IfNone result (out.new ≡ out.old) }
     ensures best { IfSome result (λ n. Held (book_of book.now) words.old kept.old → BestIn (book_of book.now) (taps_in words.old) (heard (call_in request.now)) (take n out.new)) }
 {
     let answer = match decode_call(request) {

@@ -1,25 +1,23 @@
 // The program `desk`: answers calls, a line each, by a line each.
 //
-// The crate `answers` answers calls in bytes over words that are lent, and its contracts promise that it does so by the
-// definitions of calls; `line.rt` takes lines apart and writes answers as lines. What is here lends the words and asks by
-// bytes (`Memory`), which is proved; and it reads and prints, which is run and compared.
+// The crate `session` is the desk: opened over memory that is lent, and called by bytes; its contracts promise that it
+// answers by the definitions of calls. `line.rt` takes lines apart and writes answers as lines. What is here lends the
+// memory and asks by bytes (`Memory`), which is proved; and it reads and prints, which is run and compared.
 #![tactic(auto)]
 
-ghost use Rattle.std.specs.Prelude.{◌≡◌, ◌≤◌, [], length, replicate};
-ghost use Rattle.taps.specs.Calls.{after, answer};
+ghost use Rattle.std.specs.Prelude.{◌≡◌, List, [], ◌∷◌, ◌++◌};
+ghost use Rattle.taps.specs.Calls as calls;
+ghost use Rattle.taps.specs.Calls.{after, answer, ran};
 ghost use Rattle.taps.specs.Values.{answer_of, book_of, call_of};
-ghost use Rattle.onsets.specs.Onsets.{limit_of, taps_in, words_after};
-ghost use Rattle.answers.specs.Answered.{Held, kept_after, rows_after};
 ghost use Rattle.answers.specs.Laws.{Best};
+ghost use Rattle.session.specs.Session.{Came, IsDesk, desk, memory, taps_held};
 
 mod line;
 
-use answers::answer_bytes;
 use anyhow::{anyhow, bail};
-use books::book::decode_book;
+use books::book::{MOST_BYTES, decode_book, encode_book};
 use line::{Line, parse_call};
-use onsets::MOST_WORDS;
-use plain::{MOST_KEPT_WORDS, MOST_ROW_WORDS};
+use session::{MOST_WORDS, open};
 use std::fs::File;
 use std::io::{BufRead, BufReader};
 use std::process::ExitCode;
@@ -130,55 +128,44 @@ fn answer_line(
     println!(rt; "{}", Line { book, answer })
 }
 
-// A book, and what the program lends, so that no call wants memory: words for 256 taps, for what is kept of them, and for
-// the rows from the last gap on.
+// A book, and the memory of a desk that was opened with it for as many taps as a desk may hold.
 #[derive(Drop)]
 struct Memory {
     book: Book,
-    words: [u64; MOST_WORDS],
-    kept: [u64; MOST_KEPT_WORDS],
-    rows: [u64; MOST_ROW_WORDS],
-    ghost limit: { limit_of words ≡ 256 },
-    ghost kept_room: { 32960 ≤ length kept },
-    ghost rows_room: { 16640 ≤ length rows },
-    ghost held: { Held (book_of book) words kept },
+    left: [u64; MOST_WORDS],
+    right: [u64; MOST_WORDS],
+    ghost desk: { IsDesk (book_of book) 256 left right },
 }
 
 impl Memory {
-    // No taps.
     fn new(book: Book) -> Memory
         ensures book { result.book ≡ book }
-        ensures words { result.words ≡ replicate 257 0 }
-        ensures kept { result.kept ≡ replicate 32960 0 }
-        ensures rows { result.rows ≡ replicate 16640 0 }
-        ensures taps { taps_in result.words ≡ [] }
+        ensures opened { Came (book_of book) 256 [] result.left result.right }
     {
-        Memory {
-            book,
-            words: [0; MOST_WORDS],
-            kept: [0; MOST_KEPT_WORDS],
-            rows: [0; MOST_ROW_WORDS],
-        }
+        let mut bytes = [0; MOST_BYTES];
+        let mut left = [0; MOST_WORDS];
+        let mut right = [0; MOST_WORDS];
+        let size = encode_book(&book, &mut bytes).unwrap();
+        open(&bytes[..size], MOST_TAPS, &mut left, &mut right).unwrap();
+        Memory { book, left, right }
     }
 
     // Sends a call as bytes, and reads the bytes that it is answered by.
     fn ask(&mut self, call: Call) -> Answer
         ensures book { self.new.book ≡ self.old.book }
-        ensures after { self.new.words ≡ words_after self.old.words (call_of call) }
-        ensures taps { taps_in self.new.words ≡ after 256 (taps_in self.old.words) (call_of call) }
-        ensures kept { self.new.kept ≡ kept_after (book_of self.old.book) 256 (taps_in self.old.words) (call_of call) self.old.kept }
-        ensures rows { self.new.rows ≡ rows_after (book_of self.old.book) (taps_in self.old.words) (call_of call) self.old.rows }
-        ensures value { answer_of result ≡ answer (book_of self.old.book) 256 (taps_in self.old.words) (call_of call) }
-        ensures best { Best (book_of self.old.book) (taps_in self.old.words) (call_of call) (answer_of result) }
+        ensures next { memory (book_of self.old.book) 256 self.new.left self.new.right ≡ desk.next (memory (book_of self.old.book) 256 self.old.left self.old.right) (call_of call) }
+        ensures says { answer_of result ≡ desk.says (memory (book_of self.old.book) 256 self.old.left self.old.right) (call_of call) }
+        ensures taps { taps_held (book_of self.old.book) 256 self.new.left ≡ after 256 (taps_held (book_of self.old.book) 256 self.old.left) (call_of call) }
+        ensures value { answer_of result ≡ answer (book_of self.old.book) 256 (taps_held (book_of self.old.book) 256 self.old.left) (call_of call) }
+        ensures answers { (cs : List calls.Call) → Came (book_of self.old.book) 256 cs self.old.left self.old.right → (answer_of result ≡ answer (book_of self.old.book) 256 (ran 256 [] cs) (call_of call)) × Came (book_of self.old.book) 256 (cs ++ call_of call ∷ []) self.new.left self.new.right }
+        ensures best { Best (book_of self.old.book) (taps_held (book_of self.old.book) 256 self.old.left) (call_of call) (answer_of result) }
     {
         let mut request = [0; CALL_SIZE];
         let mut bytes = [0; ANSWER_SIZE];
         let sent = encode_call(call, &mut request).unwrap();
-        let told = answer_bytes(
-            &self.book,
-            &mut self.words,
-            &mut self.kept,
-            &mut self.rows,
+        let told = session::call(
+            &mut self.left,
+            &mut self.right,
             &request[..sent],
             &mut bytes,
         );

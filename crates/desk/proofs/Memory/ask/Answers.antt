@@ -1,56 +1,63 @@
-use Rattle.std.proofs.Common.{rules, ◌≡◌, length, replicate, Some, refl, ◌∙◌, sym, ap, subst, arith}
+use Rattle.std.proofs.Common.{◌≡◌, replicate, take, Ok, Some, IfSome, refl, sym, ap, ◌∙◌, subst, arith}
 use Rattle.std.specs.Option.{option_map}
-use Rattle.taps.specs.Calls.{after, answer}
+use Rattle.std.specs.Result.{IsOk}
+use Rattle.taps.specs.Calls.{answer}
 use Rattle.taps.specs.Values.{answer_of, book_of, call_of}
-use Rattle.taps.proofs.Good.{book_is_good}
-use Rattle.onsets.specs.Laws.{Sound}
-use Rattle.onsets.specs.Onsets.{limit_of, taps_in, words_after}
-use Rattle.onsets.proofs.Words.{stands}
-use Rattle.answers.specs.Answered.{answered, kept_after, rows_after}
-use Rattle.answers.specs.Laws.{Best, AlwaysAnswered}
-use Rattle.answers.proofs.Always.{always_answered}
-use Rattle.answers.proofs.Promised.{best, held_sure}
-use Rattle.answers.proofs.Returned.{call_heard, picked_heard, told_back, read_some}
+use Rattle.wire.specs.Wire.{call_in}
+use Rattle.answers.specs.Answered.{heard}
+use Rattle.answers.specs.Laws.{Best}
+use Rattle.answers.proofs.Promised.{held_sure}
+use Rattle.session.specs.Session.{desk, memory, taps_held}
+use Rattle.session.proofs.Called.{desk_reads}
+use Rattle.session.proofs.Sent.{best_told, came_desk, came_more, mapped_some, says_answer, taps_told, told_back}
 use Rattle.desk.proofs.Memory.ask.Goals as goal
 
 pub unwrap-requires : goal.unwrap-requires
 unwrap-requires c =
     let now = c.args.self.now in
-    let sent = sym c.unwrap-sent.ensures ∙ c.encode_call.ensures.value in
-    (told_back _ _ _ _ _ (book_is_good now.book) now.held.sound (omega arith) c.args.call (replicate 5 0) _ _ _ _ _ (search rules) sent c.encode_call.ensures.after now.kept_room now.rows_room (omega arith) (c.answer_bytes-told.ensures.value (held_sure _ _ _ _ now.held)) (c.answer_bytes-told.ensures.left (held_sure _ _ _ _ now.held))).0
+    let b = book_of now.book in
+    let reads = desk_reads b 256 now.left now.right now.desk in
+    let says = c.call-told.ensures.says b 256 reads (omega arith) (held_sure _ _ _ _ now.desk.held) in
+    subst IsOk (sym says.0) refl
 
 pub unwrap-requires-2 : goal.unwrap-requires-2
 unwrap-requires-2 c =
     let now = c.args.self.now in
-    let sent = sym c.unwrap-sent.ensures ∙ c.encode_call.ensures.value in
-    let told = told_back _ _ _ _ _ (book_is_good now.book) now.held.sound (omega arith) c.args.call (replicate 5 0) _ _ _ _ _ (search rules) sent c.encode_call.ensures.after now.kept_room now.rows_room (omega arith) (c.answer_bytes-told.ensures.value (held_sure _ _ _ _ now.held)) (c.answer_bytes-told.ensures.left (held_sure _ _ _ _ now.held)) in
-    read_some _ _ (c.decode_answer.ensures ∙ told.1 _ c.unwrap.ensures)
+    let b = book_of now.book in
+    let reads = desk_reads b 256 now.left now.right now.desk in
+    let says = c.call-told.ensures.says b 256 reads (omega arith) (held_sure _ _ _ _ now.desk.held) in
+    let is_heard = ap heard (subst (λ r. IfSome r (λ n. call_in (take n c.encode_call.new.out) ≡ Ok c.args.call)) c.unwrap-sent.ensures c.encode_call.ensures.back) in
+    let told = told_back b 256 now.left now.right now.desk c.args.call (take c.unwrap-sent.result c.encode_call.new.out) (replicate 528 0) c.call-told.new.answer c.call-told.result c.unwrap.result is_heard (omega arith) c.unwrap.ensures says.0 says.1 in
+    mapped_some answer_of _ _ (c.decode_answer.ensures ∙ told)
+
+pub invariant_of-self : goal.invariant_of-self
+invariant_of-self c =
+    let now = c.args.self.now in
+    let b = book_of now.book in
+    record { desk = (c.call-told.ensures.next b 256 (desk_reads b 256 now.left now.right now.desk) (omega arith) now.desk).1 }
 
 pub returns : goal.returns
-unfolding AlwaysAnswered
 returns c =
     let now = c.args.self.now in
     let b = book_of now.book in
+    let reads = desk_reads b 256 now.left now.right now.desk in
+    let says = c.call-told.ensures.says b 256 reads (omega arith) (held_sure _ _ _ _ now.desk.held) in
+    let is_heard = ap heard (subst (λ r. IfSome r (λ n. call_in (take n c.encode_call.new.out) ≡ Ok c.args.call)) c.unwrap-sent.ensures c.encode_call.ensures.back) in
+    let told = told_back b 256 now.left now.right now.desk c.args.call (take c.unwrap-sent.result c.encode_call.new.out) (replicate 528 0) c.call-told.new.answer c.call-told.result c.unwrap.result is_heard (omega arith) c.unwrap.ensures says.0 says.1 in
     let call = call_of c.args.call in
-    let good = book_is_good now.book in
-    let sent = sym c.unwrap-sent.ensures ∙ c.encode_call.ensures.value in
-    let is_heard = call_heard c.args.call (replicate 5 0) _ _ (search rules) sent c.encode_call.ensures.after in
-    let always = always_answered b (limit_of now.words) (length now.kept) (length now.rows) call good (omega arith) now.kept_room now.rows_room in
-    let test = answered b (limit_of now.words) (length now.kept) (length now.rows) in
-    let stored = c.answer_bytes-told.ensures.after ∙ picked_heard test (words_after now.words) now.words _ call is_heard always in
-    let filled = c.answer_bytes-told.ensures.kept now.held ∙ picked_heard test (λ h. kept_after b (limit_of now.words) (taps_in now.words) h now.kept) now.kept _ call is_heard always in
-    let made = c.answer_bytes-told.ensures.rows (held_sure _ _ _ _ now.held) ∙ picked_heard test (λ h. rows_after b (taps_in now.words) h now.rows) now.rows _ call is_heard always in
-    let told = told_back _ _ _ _ _ good now.held.sound (omega arith) c.args.call (replicate 5 0) _ _ _ _ _ (search rules) sent c.encode_call.ensures.after now.kept_room now.rows_room (omega arith) (c.answer_bytes-told.ensures.value (held_sure _ _ _ _ now.held)) (c.answer_bytes-told.ensures.left (held_sure _ _ _ _ now.held)) in
-    let read : Some (answer_of c.unwrap-2.result) ≡ Some (answer b (limit_of now.words) (taps_in now.words) call) =
-    sym (ap (option_map answer_of) c.unwrap-2.ensures) ∙ c.decode_answer.ensures ∙ told.1 _ c.unwrap.ensures in
-    let same : answer_of c.unwrap-2.result ≡ answer b (limit_of now.words) (taps_in now.words) call = cc in
-    let value : answer_of c.unwrap-2.result ≡ answer b 256 (taps_in now.words) call = same ∙ ap (λ m. answer b m (taps_in now.words) call) now.limit in
+    let next = c.call-told.ensures.next b 256 reads (omega arith) now.desk in
+    let read : Some (answer_of c.unwrap-2.result) ≡ Some (desk.says (memory b 256 now.left now.right) call) = sym (ap (option_map answer_of) c.unwrap-2.ensures) ∙ c.decode_answer.ensures ∙ told in
+    let same : answer_of c.unwrap-2.result ≡ desk.says (memory b 256 now.left now.right) call = cc in
     record {
       book = refl;
-      after = stored;
-      taps = stands now.words _ call stored ∙ ap (λ m. after m (taps_in now.words) call) now.limit;
-      kept = filled ∙ ap (λ m. kept_after b m (taps_in now.words) call now.kept) now.limit;
-      rows = made;
-      value = value;
-      best = subst (Best b (taps_in now.words) call) (sym value) (best b 256 (taps_in now.words) call good (subst (λ m. Sound m (taps_in now.words)) now.limit now.held.sound) (omega arith));
+      next = next.0 ∙ ap (desk.next (memory b 256 now.left now.right)) is_heard;
+      says = same;
+      taps = taps_told b 256 now.left now.right now.desk _ _ call is_heard (c.call-told.ensures.taps b 256 reads (omega arith));
+      value = same ∙ says_answer b 256 now.left now.right now.desk call;
+      answers = λ cs came.
+          let found = came_desk b 256 cs now.left now.right came in (
+            same ∙ says_answer b 256 now.left now.right now.desk call ∙ ap (λ ts. answer b 256 ts call) found.1,
+            came_more b 256 cs now.left now.right _ _ call came (next.0 ∙ ap (desk.next (memory b 256 now.left now.right)) is_heard),
+          );
+      best = subst (Best b (taps_held b 256 now.left) call) (sym same) (best_told b 256 now.left now.right now.desk call);
     }

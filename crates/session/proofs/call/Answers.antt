@@ -1,0 +1,139 @@
+use Rattle.std.proofs.Common.{rules, ◌≡◌, ℕ, ◌<◌, ◌≤◌, ◌++◌, length, take, drop, Ok, Err, Some, Result, refl, sym, ap, ◌∙◌, subst, arith}
+use Rattle.std.specs.Option.{ok_or, option_map}
+use Rattle.std.proofs.lemmas.Option.{none-some}
+use Rattle.taps.specs.Calls.{answer}
+use Rattle.taps.specs.Values.{book_of}
+use Rattle.std.proofs.lemmas.Bool.{le-leb}
+use Rattle.taps.proofs.Picks.{picked}
+use Rattle.octets.specs.Bytes.{written}
+use Rattle.wire.specs.Wire.{answer_bytes, call_in}
+use Rattle.answers.specs.Answered.{Answerable, Held, heard}
+use Rattle.answers.proofs.Promised.{held_sure}
+use Rattle.session.specs.Layout.{Opened, desk_in, half, kept_words, own, taps_words}
+use Rattle.session.specs.Session.{answer_room, unanswered, left_after, right_after, said}
+use Rattle.session.specs.declared.Unanswered.{Unanswered}
+use Rattle.session.specs.declared.Unanswered.TheVariants.{AnswerTooSmall, NoDesk}
+use Rattle.session.specs.Values.{setup_of}
+use Rattle.session.proofs.Called.{answered, let_be, room_lacks, too_small, desk_found, desk_reads, head_same, left_rest, next_own, of_desk, right_rest, says_own}
+use Rattle.session.proofs.Sent.{came_desk, came_more, says_answer}
+use Rattle.session.proofs.call.Goals as goal
+
+pub returns-clause-opened : goal.returns-clause-opened
+returns-clause-opened c =
+    let left = c.args.left.now in
+    let right = c.args.right.now in
+    let b = book_of c.in-Some.setup.book in
+    let most = c.in-Some.setup.limit in
+    let is : desk_in left right ≡ Some (setup_of c.in-Some.setup) = sym c.find_desk.ensures ∙ ap (option_map setup_of) c.in-Some.is in
+    let found = desk_found left right (setup_of c.in-Some.setup) is in
+    let size : c.half-half.result ≡ half b most = c.half-half.ensures in
+    let first : c.split_at_mut-left.result.0.now ≡ own b most left = c.split_at_mut-left.ensures.front ∙ ap (λ n. take n left) size in
+    let first_size : length c.answer_desk.new.left ≡ half b most = search (rules, size) in
+    let second_size : length c.answer_desk.new.right ≡ half b most = search (rules, size) in
+    let left_is = ap (λ ws. c.answer_desk.new.left ++ ws) (c.split_at_mut-left.ensures.back ∙ ap (λ n. drop n left) size) in
+    let right_is = ap (λ ws. c.answer_desk.new.right ++ ws) (c.split_at_mut-right.ensures.back ∙ ap (λ n. drop n right) size) in
+    of_desk left right _ (setup_of c.in-Some.setup) is _ (
+      head_same b most left right found.0 found.1 found.2 _ _ _ _ first_size second_size left_is right_is (c.answer_desk.ensures.head ∙ ap (take 39) first),
+      left_rest b most left right found.0 found.1 found.2 _ _ _ _ first_size second_size left_is right_is,
+      right_rest b most left right found.0 found.1 found.2 _ _ _ _ first_size second_size left_is right_is,
+    )
+
+pub returns-clause-says : goal.returns-clause-says
+returns-clause-says c =
+    let left = c.args.left.now in
+    let right = c.args.right.now in
+    let h = heard (call_in c.args.request.now) in
+    let b = book_of c.in-Some.setup.book in
+    let most = c.in-Some.setup.limit in
+    let is : desk_in left right ≡ Some (setup_of c.in-Some.setup) = sym c.find_desk.ensures ∙ ap (option_map setup_of) c.in-Some.is in
+    let found = desk_found left right (setup_of c.in-Some.setup) is in
+    let first : c.split_at_mut-left.result.0.now ≡ own b most left = c.split_at_mut-left.ensures.front ∙ ap (λ n. take n left) c.half-half.ensures in
+    let bytes_are = ap (λ ws. answer_bytes (said b most ws h)) first ∙ ap answer_bytes (sym (says_own b most left right found.0 found.1 found.2 h)) in
+    of_desk left right _ (setup_of c.in-Some.setup) is _ (
+    λ sure.
+    let told = c.answer_desk.ensures.says (subst (λ ws. Answerable b (taps_words most ws) (kept_words most ws) h) (sym first) sure) in
+    (c.ok_or.ensures.value ∙ ap (λ r. ok_or r NoDesk) told.0 ∙ ap (λ bs. Ok (length bs)) bytes_are, told.1 ∙ ap (λ bs. written bs c.args.answer.now) bytes_are)
+    )
+
+pub returns-clause-next : goal.returns-clause-next
+returns-clause-next c =
+    let left = c.args.left.now in
+    let right = c.args.right.now in
+    let h = heard (call_in c.args.request.now) in
+    let b = book_of c.in-Some.setup.book in
+    let most = c.in-Some.setup.limit in
+    let is : desk_in left right ≡ Some (setup_of c.in-Some.setup) = sym c.find_desk.ensures ∙ ap (option_map setup_of) c.in-Some.is in
+    let found = desk_found left right (setup_of c.in-Some.setup) is in
+    let size : c.half-half.result ≡ half b most = c.half-half.ensures in
+    let first : c.split_at_mut-left.result.0.now ≡ own b most left = c.split_at_mut-left.ensures.front ∙ ap (λ n. take n left) size in
+    let second : c.split_at_mut-right.result.0.now ≡ own b most right = c.split_at_mut-right.ensures.front ∙ ap (λ n. take n right) size in
+    let first_size : length c.answer_desk.new.left ≡ half b most = search (rules, size) in
+    let second_size : length c.answer_desk.new.right ≡ half b most = search (rules, size) in
+    let left_is = ap (λ ws. c.answer_desk.new.left ++ ws) (c.split_at_mut-left.ensures.back ∙ ap (λ n. drop n left) size) in
+    let right_is = ap (λ ws. c.answer_desk.new.right ++ ws) (c.split_at_mut-right.ensures.back ∙ ap (λ n. drop n right) size) in
+    of_desk left right _ (setup_of c.in-Some.setup) is _ (
+    λ stands.
+    let next = c.answer_desk.ensures.next (subst (λ ws. Held b (taps_words most ws) (kept_words most ws)) (sym first) stands.held) in
+    next_own b most left right found.0 found.1 found.2 _ _ _ _ first_size second_size left_is right_is h stands
+    (next.0 ∙ ap (λ ws. left_after b most ws h) first) (next.1 ∙ (λ j. right_after b most (first j) (second j) h))
+    )
+
+pub returns-clause-answers : goal.returns-clause-answers
+returns-clause-answers c =
+    λ b most cs came room.
+    let left = c.args.left.now in
+    let right = c.args.right.now in
+    let h = heard (call_in c.args.request.now) in
+    let found = came_desk b most cs left right came in
+    let reads = desk_reads b most left right found.0 in
+    let bytes_are = ap answer_bytes (says_answer b most left right found.0 h ∙ ap (λ ts. answer b most ts h) found.1) in
+    let says = returns-clause-says c b most reads room (held_sure _ _ _ h found.0.held) in
+    let next = returns-clause-next c b most reads room found.0 in (
+      says.0 ∙ ap (λ bs. Ok (length bs)) bytes_are,
+      says.1 ∙ ap (λ bs. written bs c.args.answer.now) bytes_are,
+      came_more b most cs left right _ _ h came next.0,
+    )
+
+pub returns-in_default : goal.returns-in_default
+returns-in_default c =
+    let told : Result ℕ Unanswered = Err NoDesk in
+    let none : (s : Opened) → desk_in c.args.left.now c.args.right.now ≡ Some s → ⊥ = λ s is. none-some s (c.in_default.ensures ∙ is) in
+    record {
+      answers = λ b most cs came room. absurd (none _ (desk_reads b most c.args.left.now c.args.right.now (came_desk b most cs _ _ came).0));
+      unanswered = let_be (desk_in c.args.left.now c.args.right.now) (length c.args.answer.now) NoDesk (λ e. (told ≡ Err e) × (c.args.left.now ≡ c.args.left.now) × (c.args.right.now ≡ c.args.right.now) × (c.args.answer.now ≡ c.args.answer.now)) (ap (λ o. unanswered o (length c.args.answer.now)) (sym c.in_default.ensures)) (refl, refl, refl, refl);
+      bound = tt;
+      untold = (refl, refl);
+      opened = λ b most is room. absurd (none _ is);
+      taps = λ b most is room. absurd (none _ is);
+      still = λ b most is room. absurd (none _ is);
+      unread = λ un. refl;
+      says = λ b most is room. absurd (none _ is);
+      next = λ b most is room. absurd (none _ is);
+      best = tt;
+    }
+
+pub returns-then-answer-answer_size : goal.returns-then-answer-answer_size
+returns-then-answer-answer_size c =
+    let found : desk_in c.args.left.now c.args.right.now ≡ Some (setup_of c.in-Some.setup) = sym c.find_desk.ensures ∙ ap (option_map setup_of) c.in-Some.is in
+    let told : Result ℕ Unanswered = Err AnswerTooSmall in
+    let small : length c.args.answer.now < answer_room c.in-Some.setup.limit = omega (arith, c.in-Some.setup.few, c.answer_size.ensures, c.if-answer-answer_size.true) in
+    let none = too_small c.args.left.now c.args.right.now (setup_of c.in-Some.setup) (length c.args.answer.now) found small in
+    record {
+      answers = λ b most cs came room. absurd (none b most (desk_reads b most c.args.left.now c.args.right.now (came_desk b most cs _ _ came).0) room);
+      unanswered = let_be (desk_in c.args.left.now c.args.right.now) (length c.args.answer.now) AnswerTooSmall (λ e. (told ≡ Err e) × (c.args.left.now ≡ c.args.left.now) × (c.args.right.now ≡ c.args.right.now) × (c.args.answer.now ≡ c.args.answer.now)) (ap (λ o. unanswered o (length c.args.answer.now)) found ∙ room_lacks c.in-Some.setup.limit (length c.args.answer.now) small) (refl, refl, refl, refl);
+      bound = tt;
+      untold = (refl, refl);
+      opened = λ b most is room. absurd (none b most is room);
+      taps = λ b most is room. absurd (none b most is room);
+      still = λ b most is room. absurd (none b most is room);
+      unread = λ un. refl;
+      says = λ b most is room. absurd (none b most is room);
+      next = λ b most is room. absurd (none b most is room);
+      best = tt;
+    }
+
+pub returns-clause-unanswered : goal.returns-clause-unanswered
+returns-clause-unanswered c =
+    let found : desk_in c.args.left.now c.args.right.now ≡ Some (setup_of c.in-Some.setup) = sym c.find_desk.ensures ∙ ap (option_map setup_of) c.in-Some.is in
+    let fits : answer_room c.in-Some.setup.limit ≤ length c.args.answer.now = omega (arith, c.in-Some.setup.few, c.answer_size.ensures, c.if-answer-answer_size.false) in
+    answered (desk_in c.args.left.now c.args.right.now) (length c.args.answer.now) _ (ap (λ o. unanswered o (length c.args.answer.now)) found ∙ picked _ _ _ (le-leb (answer_room c.in-Some.setup.limit) (length c.args.answer.now) fits))

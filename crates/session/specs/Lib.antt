@@ -1,0 +1,4 @@
+pub mod Layout
+pub mod Session
+pub mod Values
+pub mod Laws
