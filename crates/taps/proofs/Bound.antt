@@ -11,7 +11,8 @@ use Rattle.taps.proofs.Picks.{pick_both}
 use Rattle.taps.proofs.Gap.{reads_all}
 use Rattle.taps.proofs.Plain.{same_least}
 
-kind_good : (ks : List Kind) (i : ℕ) → good_kinds ks ≡ true → ((get_or ks i (record { ticks = 0; weight = 0 })).ticks ≤ 96) × ((get_or ks i (record { ticks = 0; weight = 0 })).weight < 16777216)
+-- a kind and a tempo of a good book, or 0 where there is none
+pub kind_good : (ks : List Kind) (i : ℕ) → good_kinds ks ≡ true → ((get_or ks i (record { ticks = 0; weight = 0 })).ticks ≤ 96) × ((get_or ks i (record { ticks = 0; weight = 0 })).weight < 16777216)
 unfolding good_kinds
 kind_good [] i h = omega arith
 kind_good (k ∷ ks) zero h =
@@ -20,7 +21,7 @@ kind_good (k ∷ ks) zero h =
     (leb-true k.ticks 96 (and_parts (leb 1 k.ticks) (leb k.ticks 96) q.0).1, ltb-true k.weight 16777216 q.1)
 kind_good (k ∷ ks) (suc i) h = kind_good ks i (and_parts _ (good_kinds ks) h).1
 
-tempo_good : (ts : List ℕ) (i : ℕ) → good_tempi ts ≡ true → get_or ts i 0 ≤ 4000
+pub tempo_good : (ts : List ℕ) (i : ℕ) → good_tempi ts ≡ true → get_or ts i 0 ≤ 4000
 unfolding good_tempi
 tempo_good [] i h = omega arith
 tempo_good (t ∷ []) zero h = leb-true t 4000 (and_parts (leb 100 t) (leb t 4000) h).1

@@ -1,0 +1,3 @@
+pub mod Lines
+pub mod Notes
+pub mod Laws
