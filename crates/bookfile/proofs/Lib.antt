@@ -1,0 +1,3 @@
+pub mod Good
+pub mod Return
+pub mod Tempi

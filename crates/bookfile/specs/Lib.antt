@@ -1,0 +1,4 @@
+pub mod Books
+pub mod Values
+pub mod Written
+pub mod Laws
