@@ -161,14 +161,19 @@ left_more d (e ∷ cs) m c = left_more d cs (d.next m e) c
 pub left_opened_is : (b : Book) (most : ℕ) (cs : List calls.Call) → GoodBook b → most ≤ 256 → Left b most (left_by desk (desk.opened b most) cs) (ran most [] cs)
 left_opened_is b most cs good few = subst (λ us. Left b most (left_by desk (desk.opened b most) cs) (ran most us cs)) (opened_none b most good few) (left_is b most cs (left_opened b most) (right_opened b most) (opened_stands b most good few))
 
-pub desk_keeps : RefusalKeeps desk
-unfolding RefusalKeeps
-desk_keeps b most cs c good few readable refused =
+-- what is refused changes nothing
+pub refused_stays : (b : Book) (most : ℕ) (cs : List calls.Call) (c : calls.Call) → GoodBook b → most ≤ 256 → 0 < turned most (ran most [] cs) c →
+    desk.next (left_by desk (desk.opened b most) cs) c ≡ left_by desk (desk.opened b most) cs
+refused_stays b most cs c good few refused =
     let done = left_opened_is b most cs good few in
     let is = done.stands in
     let number : 0 < turned most (taps_in (taps_words most done.left)) c = subst (λ us. 0 < turned most us c) (sym done.taps) refused in
     let rows = refused_rows b most (taps_in (taps_words most done.left)) c done.right number in
     ap (λ m. desk.next m c) done.is ∙ next_is b most done.left done.right is.setup is.left_size c ∙ (λ j. mem (same_left b most done.left done.right is c number j) (rows j)) ∙ sym done.is
+
+pub desk_keeps : RefusalKeeps desk
+unfolding RefusalKeeps
+desk_keeps b most cs c good few readable refused = refused_stays b most cs c good few refused
 
 pub desk_stays : StaysDesk
 unfolding StaysDesk

@@ -1,12 +1,12 @@
 -- A call that is sent to a desk by its bytes: its answer is what the bytes that are told are read as. Assumes nothing.
-use Rattle.std.proofs.Common.{◌≡◌, ℕ, ◌≤◌, List, [], ◌∷◌, ◌++◌, length, take, drop, Ok, Some, None, Option, Result, IfOk, refl, sym, ap, ◌∙◌, subst, arith}
+use Rattle.std.proofs.Common.{◌≡◌, ℕ, ◌<◌, ◌≤◌, List, [], ◌∷◌, ◌++◌, length, take, drop, Ok, Some, None, Option, Result, IfOk, refl, sym, ap, ◌∙◌, subst, arith}
 use Rattle.std.specs.Option.{IsSome, option_map}
 use Rattle.std.proofs.lemmas.Option.{none-some}
 use Rattle.std.proofs.lemmas.Bool.{and_from, le-leb}
 use Rattle.std.proofs.lemmas.List.{take_at, drop_at, length-append, length-take}
 use Rattle.taps.specs.Readings.{Book}
 use Rattle.taps.specs.Calls as calls
-use Rattle.taps.specs.Calls.{after, answer, ran}
+use Rattle.taps.specs.Calls.{after, answer, ran, turned}
 use Rattle.taps.specs.Values.{call_of}
 use Rattle.taps.specs.declared.call.Call.{Call}
 use Rattle.taps.proofs.Picks.{picked}
@@ -26,7 +26,7 @@ use Rattle.session.specs.Layout.{asked, half, own, room_for, taps_words}
 use Rattle.session.specs.Session.{Came, IsDesk, Stands, answer_room, desk, memory, taps_held}
 use Rattle.session.specs.declared.Unanswered.{Unanswered}
 use Rattle.session.proofs.Called.{desk_found, desk_reads, says_own}
-use Rattle.session.proofs.Desk.{left_more, left_opened_is}
+use Rattle.session.proofs.Desk.{left_more, left_opened_is, refused_stays}
 use Rattle.session.proofs.Parts.{limit_is}
 
 -- what holds where a result is a value, of one that is
@@ -96,3 +96,8 @@ came_desk b most cs left right came =
 pub came_more : (b : Book) (most : ℕ) (cs : List calls.Call) (left right left_new right_new : List ℕ) (c : calls.Call) → Came b most cs left right →
     memory b most left_new right_new ≡ desk.next (memory b most left right) c → Came b most (cs ++ c ∷ []) left_new right_new
 came_more b most cs left right left_new right_new c came next = (came.0, came.1, next ∙ ap (λ m. desk.next m c) came.2 ∙ left_more desk cs (desk.opened b most) c)
+
+-- nor does a refused one change anything
+pub came_refused : (b : Book) (most : ℕ) (cs : List calls.Call) (left right : List ℕ) (c : calls.Call) → Came b most cs left right → 0 < turned most (ran most [] cs) c → Came b most (cs ++ c ∷ []) left right
+came_refused b most cs left right c came refused =
+    came_more b most cs left right left right c came (came.2 ∙ sym (ap (λ m. desk.next m c) came.2 ∙ refused_stays b most cs c came.0 came.1 refused))
