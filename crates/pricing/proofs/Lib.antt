@@ -1,0 +1,4 @@
+pub mod Held
+pub mod Prices
+pub mod Priced
+pub mod Agree
