@@ -1,22 +1,22 @@
 // The rhythm desk once more, in plain Rust: written from the rules in `docs/` and not from the proved code, so that the
 // answers of the two, and what they take, can be compared.
 
-use std::env;
 use std::error::Error;
-use std::ffi::OsStr;
 use std::fmt::{self, Write as _};
-use std::fs::{self, File};
+use std::fs::File;
 use std::io::{self, BufRead, BufReader, Write as _};
-use std::ops::RangeInclusive;
-use std::path::Path;
 use std::process::ExitCode;
 
-const USAGE: &str = "usage: desk [--book BOOK] [CALLS]";
+use book::Book;
+use options::{MOST_TAPS, Options};
 
-const MOST_TAPS: usize = 256;
+mod book;
+mod options;
+mod text;
+
+const USAGE: &str = "usage: desk [--book FILE] [--limit N] [CALLS]";
+
 const TIME_END: u32 = 1 << 24;
-const WEIGHT_END: u32 = 1 << 24;
-const CHANGE_END: u32 = 1 << 16;
 
 // More than any reading costs: what a row says where there is no reading.
 const TOO_MUCH: u64 = (1 << 63) - 1;
@@ -30,59 +30,7 @@ fn least(costs: &[u64]) -> u64 {
     costs.iter().copied().min().unwrap_or(TOO_MUCH)
 }
 
-#[derive(Clone, Copy)]
-struct Kind {
-    ticks: u32,
-    weight: u32,
-}
-
-impl Kind {
-    // What a gap costs as this kind at this tempo, but for the change of tempo.
-    fn local_cost(self, gap: u32, tempo: u32) -> u32 {
-        (12 * gap).abs_diff(self.ticks * tempo) + self.weight
-    }
-}
-
-struct Book {
-    kinds: Vec<Kind>,
-    tempi: Vec<u32>,
-    change: u32,
-}
-
 impl Book {
-    fn built_in() -> Book {
-        let kinds = [
-            (3, 2400),
-            (6, 600),
-            (12, 0),
-            (24, 600),
-            (8, 3000),
-            (4, 3600),
-        ];
-        Book {
-            kinds: kinds.map(|(ticks, weight)| Kind { ticks, weight }).to_vec(),
-            tempi: vec![400, 500, 600, 750],
-            change: 20,
-        }
-    }
-
-    fn decode(mut bytes: &[u8]) -> Option<Book> {
-        let bytes = &mut bytes;
-        let kinds = take_list(bytes, 32, |bytes| {
-            let ticks = take_number(bytes, 1, 1..=96)?;
-            let weight = take_number(bytes, 4, 0..=WEIGHT_END - 1)?;
-            Some(Kind { ticks, weight })
-        })?;
-        let tempi = take_list(bytes, 64, |bytes| take_number(bytes, 2, 100..=4000))?;
-        let change = take_number(bytes, 4, 0..=CHANGE_END - 1)?;
-        let good = bytes.is_empty() && tempi.is_sorted_by(|tempo, next| tempo < next);
-        good.then_some(Book {
-            kinds,
-            tempi,
-            change,
-        })
-    }
-
     // For each tempo the least that a gap costs, as its cheapest kind.
     fn fill_local_costs(&self, gap: u32, costs: &mut [u32]) {
         costs.fill(u32::MAX);
@@ -128,25 +76,6 @@ impl Book {
             *cost = least;
         }
     }
-}
-
-// The list of so many items as the first byte says, from 1 to `most`.
-fn take_list<T>(
-    bytes: &mut &[u8],
-    most: u32,
-    take: impl Fn(&mut &[u8]) -> Option<T>,
-) -> Option<Vec<T>> {
-    let count = take_number(bytes, 1, 1..=most)?;
-    (0..count).map(|_| take(bytes)).collect()
-}
-
-fn take_number(bytes: &mut &[u8], size: usize, bounds: RangeInclusive<u32>) -> Option<u32> {
-    let (number, rest) = bytes.split_at_checked(size)?;
-    *bytes = rest;
-    let number = number
-        .iter()
-        .rfold(0, |high, &low| high << 8 | u32::from(low));
-    bounds.contains(&number).then_some(number)
 }
 
 // Rows of costs, as wide as each other, in memory that is allocated once.
@@ -195,6 +124,8 @@ enum Refusal {
 // costs have a cost for each tempo.
 struct Desk {
     book: Book,
+    // How many taps it may hold.
+    limit: usize,
     taps: Vec<u32>,
     // For each tap but the first the local costs of the gap that it ends, in the row of the tap before.
     local_costs: Rows<u32>,
@@ -209,7 +140,7 @@ struct Desk {
 }
 
 impl Desk {
-    fn new(book: Book) -> Desk {
+    fn new(book: Book, limit: usize) -> Desk {
         let states = book.tempi.len() + 1;
         let mut prefix_rows = Rows::new(MOST_TAPS, states);
         prefix_rows.row_mut(0)[1..].fill(TOO_MUCH);
@@ -220,6 +151,7 @@ impl Desk {
             suffix_rows: Rows::new(MOST_TAPS, states),
             wanted: vec![0; book.tempi.len()].into_boxed_slice(),
             reading: Vec::with_capacity(MOST_TAPS - 1),
+            limit,
             book,
         }
     }
@@ -234,7 +166,7 @@ impl Desk {
             return Err(Refusal::NotLater);
         }
         let number = self.taps.len();
-        if number == MOST_TAPS {
+        if number == self.limit {
             return Err(Refusal::TooManyTaps);
         }
         if let Some(last) = last {
@@ -328,30 +260,17 @@ enum Call {
 }
 
 impl Call {
-    // A word and, behind a space or a tab, what belongs to it, with blanks around both.
     fn parse(line: &[u8]) -> Option<Call> {
-        let line = line.trim_ascii();
-        let end = line.iter().position(|byte| b" \t".contains(byte));
-        let (word, rest) = line.split_at(end.unwrap_or(line.len()));
-        match (word, rest.trim_ascii()) {
-            (b"tap", time) => parse_time(time).map(Call::Tap),
-            (b"back", b"") => Some(Call::Back),
-            (b"cost", b"") => Some(Call::Cost),
-            (b"read", b"") => Some(Call::Read),
-            _ => None,
-        }
+        let mut tokens = text::tokens(line);
+        let call = match tokens.next()? {
+            b"tap" => Call::Tap(text::number(tokens.next()?)?),
+            b"back" => Call::Back,
+            b"cost" => Call::Cost,
+            b"read" => Call::Read,
+            _ => return None,
+        };
+        tokens.next().is_none().then_some(call)
     }
-}
-
-// However many digits there are: a time that is too long for 32 bits is too late in any case.
-fn parse_time(digits: &[u8]) -> Option<u32> {
-    if digits.is_empty() {
-        return None;
-    }
-    digits.iter().try_fold(0u32, |time, digit| {
-        let digit = digit.is_ascii_digit().then(|| u32::from(digit - b'0'))?;
-        Some(time.saturating_mul(10).saturating_add(digit))
-    })
 }
 
 fn write_answer(desk: &mut Desk, call: Call, text: &mut String) -> fmt::Result {
@@ -382,8 +301,7 @@ fn write_reading(desk: &mut Desk, text: &mut String) -> fmt::Result {
 }
 
 // Each answer is out, in one piece, before the next line is waited for.
-fn answer_lines(book: Book, mut lines: impl BufRead) -> Result<(), Box<dyn Error>> {
-    let mut desk = Desk::new(book);
+fn answer_lines(mut desk: Desk, mut lines: impl BufRead) -> Result<(), Box<dyn Error>> {
     let mut answers = io::stdout().lock();
     let mut line = Vec::new();
     let mut text = String::new();
@@ -402,34 +320,16 @@ fn answer_lines(book: Book, mut lines: impl BufRead) -> Result<(), Box<dyn Error
     Ok(())
 }
 
-fn read_book(path: &Path) -> Result<Book, Box<dyn Error>> {
-    let bytes = fs::read(path).map_err(|error| format!("{}: {error}", path.display()))?;
-    Book::decode(&bytes).ok_or_else(|| format!("{}: its bytes are no book", path.display()).into())
-}
-
 fn run() -> Result<(), Box<dyn Error>> {
-    let mut args = env::args_os().skip(1);
-    let mut next = args.next();
-    let mut book = Book::built_in();
-    if next.as_deref() == Some(OsStr::new("--book")) {
-        let path = args.next().ok_or("--book wants a file")?;
-        book = read_book(Path::new(&path))?;
-        next = args.next();
-    }
-    if args.next().is_some() {
-        return Err("more than one file of calls, or an option behind it".into());
-    }
-    let Some(path) = next else {
-        return answer_lines(book, io::stdin().lock());
+    let Some(options) = Options::read(true)? else {
+        return Ok(writeln!(io::stdout(), "{USAGE}")?);
     };
-    match path.as_encoded_bytes() {
-        b"--help" | b"-h" => Ok(writeln!(io::stdout(), "{USAGE}")?),
-        [b'-', ..] => Err(format!("unknown option {}", path.display()).into()),
-        _ => {
-            let file = File::open(&path).map_err(|error| format!("{}: {error}", path.display()))?;
-            answer_lines(book, BufReader::new(file))
-        }
-    }
+    let desk = Desk::new(options.book, options.limit);
+    let Some(path) = options.file else {
+        return answer_lines(desk, io::stdin().lock());
+    };
+    let file = File::open(&path).map_err(|error| format!("{}: {error}", path.display()))?;
+    answer_lines(desk, BufReader::new(file))
 }
 
 fn main() -> ExitCode {

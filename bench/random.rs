@@ -1,12 +1,14 @@
-// Writes a random book, as bytes, and a random list of calls for a desk with that book: for a seed always the same.
+// Writes a random book, as lines, a random list of calls for a desk with that book and that limit, and for `price` the
+// taps that are held at the end with a random reading of them: for a seed always the same.
 
 use std::collections::BTreeSet;
 use std::env;
 use std::error::Error;
 use std::fs;
+use std::iter;
 use std::process::ExitCode;
 
-const USAGE: &str = "usage: random SEED KINDS TEMPI CALLS BOOK_FILE CALLS_FILE";
+const USAGE: &str = "usage: random SEED KINDS TEMPI LIMIT CALLS BOOK_FILE CALLS_FILE PRICE_FILE";
 
 const MOST_KINDS: u64 = 32;
 const MOST_TEMPI: u64 = 64;
@@ -86,18 +88,109 @@ impl Book {
         }
     }
 
-    fn bytes(&self) -> Vec<u8> {
-        let mut bytes = vec![self.kinds.len() as u8];
+    fn text(&self, random: Random) -> Vec<u8> {
+        let mut scribe = Scribe {
+            random,
+            text: Vec::new(),
+        };
         for &(ticks, weight) in &self.kinds {
-            bytes.push(ticks as u8);
-            bytes.extend((weight as u32).to_le_bytes());
+            let name = scribe.random.pick(&NAMES);
+            let ticks = format!("{},", scribe.number(ticks));
+            let weight = scribe.number(weight);
+            scribe.line(&[name, &ticks, "weight", &weight]);
         }
-        bytes.push(self.tempi.len() as u8);
-        for &tempo in &self.tempi {
-            bytes.extend((tempo as u16).to_le_bytes());
+        let tempi: Vec<_> = self
+            .tempi
+            .iter()
+            .map(|&tempo| scribe.number(tempo))
+            .collect();
+        let tempi = tempi.iter().map(String::as_str);
+        let tempi: Vec<_> = iter::once("tempi").chain(tempi).collect();
+        scribe.line(&tempi);
+        let change = scribe.number(self.change);
+        scribe.line(&["change", &change]);
+        scribe.end()
+    }
+}
+
+// Names that look like other words of a book, too.
+const NAMES: [&str; 10] = [
+    "quarter",
+    "dotted-eighth",
+    "Half",
+    "x",
+    "-",
+    "weight",
+    "none",
+    "Tempi",
+    "tempi-",
+    "changes",
+];
+
+// Writes the lines of a book, mostly plainly; now and then with what a book may have besides.
+struct Scribe {
+    random: Random,
+    text: Vec<u8>,
+}
+
+impl Scribe {
+    fn number(&mut self, number: u64) -> String {
+        let zeros = match self.random.below(20) {
+            0 => "0",
+            1 => "00000000000000000000000000",
+            _ => "",
+        };
+        format!("{zeros}{number}")
+    }
+
+    fn line(&mut self, tokens: &[&str]) {
+        self.passed_over();
+        let odd = self.random.percent(20);
+        if odd {
+            let front = self.random.pick(&["", " ", "\t", "\x0c \r"]);
+            self.text.extend(front.as_bytes());
         }
-        bytes.extend((self.change as u32).to_le_bytes());
-        bytes
+        for (place, token) in tokens.iter().enumerate() {
+            let blank = match place {
+                0 => "",
+                _ if odd => self.random.pick(&[" ", "  ", "\t", "\r", "\x0c", " \t "]),
+                _ => " ",
+            };
+            self.text.extend(blank.as_bytes());
+            self.text.extend(token.as_bytes());
+        }
+        if odd {
+            let end = self.random.pick(&["", " ", "\r", " \t\x0c\r"]);
+            self.text.extend(end.as_bytes());
+        }
+        self.text.push(b'\n');
+    }
+
+    // Lines that say nothing.
+    fn passed_over(&mut self) {
+        let lines: [&[u8]; 8] = [
+            b"",
+            b" \t\r",
+            b"#",
+            b"# a comment",
+            b"\t#quarter 12, weight 0",
+            b"## tempi 400 500",
+            b"# change 20\r",
+            b"# \xff\xfe\x00",
+        ];
+        while self.random.percent(10) {
+            self.text.extend(self.random.pick(&lines));
+            self.text.push(b'\n');
+        }
+    }
+
+    // The last line needs no end.
+    fn end(mut self) -> Vec<u8> {
+        self.passed_over();
+        if self.random.percent(30) {
+            self.text.pop();
+        }
+        self.text
     }
 }
 
@@ -138,6 +231,7 @@ fn some_tempi(random: &mut Random, count: u64, step: u64) -> Vec<u64> {
 struct Player {
     random: Random,
     book: Book,
+    limit: usize,
     taps: Vec<u64>,
     // How many taps are to be held next. More than there can be: until some are refused.
     goal: usize,
@@ -164,7 +258,7 @@ impl Player {
 
     fn choose_goal(&mut self) {
         let held = self.taps.len();
-        let refused = held == MOST_TAPS && self.random.percent(10);
+        let refused = held == self.limit && self.random.percent(10);
         if self.taps.last().is_some_and(|&time| time > LATE) {
             self.goal = held.saturating_sub(self.random.between(1, 20) as usize);
         } else if held == self.goal || refused {
@@ -181,7 +275,7 @@ impl Player {
     fn tap(&mut self) -> Vec<u8> {
         let time = self.time();
         let later = self.taps.last().is_none_or(|&last| time > last);
-        if later && time < TIME_END && self.taps.len() < MOST_TAPS {
+        if later && time < TIME_END && self.taps.len() < self.limit {
             self.taps.push(time);
         }
         self.dressed("tap", &time.to_string())
@@ -244,7 +338,7 @@ impl Player {
         let (blanks, zeros) = match time {
             "" => ("", ""),
             _ => (
-                self.random.pick(&[" ", "\t", " \t "]),
+                self.random.pick(&[" ", "\t", " \t ", "\r", "\x0c"]),
                 self.random.pick(&["", "0", "000000000000"]),
             ),
         };
@@ -275,19 +369,14 @@ impl Player {
     }
 }
 
-fn calls_of(random: Random, book: Book, count: u64) -> Vec<u8> {
-    let mut player = Player {
-        random,
-        book,
-        taps: Vec::with_capacity(MOST_TAPS),
-        goal: if count < 600 { 20 } else { MOST_TAPS + 1 },
-        tempo: 0,
-    };
+// So many calls, and two more that ask what the taps that are held then cost and how they are read.
+fn calls_of(player: &mut Player, count: u64) -> Vec<u8> {
     let mut calls = Vec::new();
     for _ in 0..count {
         calls.extend(player.call());
         calls.push(b'\n');
     }
+    calls.extend(b"cost\nread\n");
     // The last line needs no end.
     if player.random.percent(50) {
         calls.pop();
@@ -295,15 +384,61 @@ fn calls_of(random: Random, book: Book, count: u64) -> Vec<u8> {
     calls
 }
 
+// What `price` reads: taps, and any notes of the book for their gaps.
+fn price_of(random: &mut Random, book: &Book, taps: &[u64]) -> String {
+    let times: Vec<_> = taps.iter().map(u64::to_string).collect();
+    let notes: Vec<_> = taps.windows(2).map(|_| note(random, book)).collect();
+    let reading = if notes.is_empty() {
+        "none".into()
+    } else {
+        notes.join(" ")
+    };
+    format!("{}\n{reading}\n", times.join(" "))
+}
+
+fn note(random: &mut Random, book: &Book) -> String {
+    let (ticks, _) = random.pick(&book.kinds);
+    let tempo = random.pick(&book.tempi);
+    format!("{ticks}@{tempo}")
+}
+
 fn run() -> Result<(), Box<dyn Error>> {
     let args: Vec<String> = env::args().skip(1).collect();
-    let [seed, kinds, tempi, calls, book_file, calls_file] = args.as_slice() else {
+    let [
+        seed,
+        kinds,
+        tempi,
+        limit,
+        calls,
+        book_file,
+        calls_file,
+        price_file,
+    ] = args.as_slice()
+    else {
         return Err(USAGE.into());
     };
-    let mut random = Random(seed.parse()?);
+    let seed = seed.parse()?;
+    let calls = calls.parse()?;
+    let mut random = Random(seed);
     let book = Book::random(&mut random, kinds.parse()?, tempi.parse()?);
-    fs::write(book_file, book.bytes())?;
-    fs::write(calls_file, calls_of(random, book, calls.parse()?))?;
+    // How the book is written has random numbers of its own, so that the calls don't hang on it.
+    fs::write(book_file, book.text(Random(!seed)))?;
+    let mut player = Player {
+        random,
+        book,
+        limit: limit.parse()?,
+        taps: Vec::with_capacity(MOST_TAPS),
+        goal: if calls < 600 { 20 } else { MOST_TAPS + 1 },
+        tempo: 0,
+    };
+    fs::write(calls_file, calls_of(&mut player, calls))?;
+    let Player {
+        mut random,
+        book,
+        taps,
+        ..
+    } = player;
+    fs::write(price_file, price_of(&mut random, &book, &taps))?;
     Ok(())
 }
 
