@@ -4,9 +4,10 @@ use Rattle.std.specs.Option.{IfSome}
 use Rattle.taps.specs.Readings.{Book, least, reading}
 use Rattle.taps.specs.Calls as calls
 use Rattle.taps.specs.Calls.{gaps, turned, told, after, answer, answers}
-use Rattle.taps.specs.Promise.{GoodBook, Least, First}
+use Rattle.taps.specs.Promise.{GoodBook}
 use Rattle.taps.proofs.Between.{length_gaps}
-use Rattle.taps.proofs.Whole.{least_stands, first_stands}
+use Rattle.statements.specs.Statements.{Least, First}
+use Rattle.statements.proofs.Whole.{least_stands, first_stands}
 use Rattle.onsets.specs.Laws.{Sound}
 use Rattle.onsets.proofs.Sound.{gaps_small, after_sound}
 use Rattle.taps.specs.Values.{call_of, answer_of}

@@ -5,13 +5,14 @@ use Rattle.std.proofs.lemmas.Bool.Decides.{nat_tests}
 use Rattle.taps.specs.Readings.{Book, Read, in_book, reading}
 use Rattle.taps.specs.Calls as calls
 use Rattle.taps.specs.Calls.{gaps, turned, place, told, answer}
-use Rattle.taps.specs.Promise.{GoodBook, Least}
+use Rattle.taps.specs.Promise.{GoodBook}
 use Rattle.taps.specs.declared.call.Call.{Call}
 use Rattle.taps.specs.declared.call.Call.TheVariants as call
 use Rattle.taps.specs.declared.refusal.Refusal.{Refusal}
 use Rattle.taps.proofs.Between.{length_gaps, length_reading}
-use Rattle.taps.proofs.Plain.{least_capped}
-use Rattle.taps.proofs.Whole.{least_stands}
+use Rattle.statements.specs.Statements.{Least}
+use Rattle.statements.proofs.Plain.{least_capped}
+use Rattle.statements.proofs.Whole.{least_stands}
 use Rattle.octets.specs.Bytes.{room, written}
 use Rattle.octets.proofs.Chunks.{length_joined}
 use Rattle.octets.proofs.Front.{read_back}

@@ -5,7 +5,8 @@ use Rattle.std.specs.Prelude.{◌≡◌, ℕ, ◌≤◌, true, List, [], ◌∷�
 use Rattle.taps.specs.Readings.{Book, Read, all_cost, in_book}
 use Rattle.taps.specs.Calls as calls
 use Rattle.taps.specs.Calls.{Answer, number, reads, gaps, after}
-use Rattle.taps.specs.Promise.{GoodBook, comes_first}
+use Rattle.taps.specs.Promise.{GoodBook}
+use Rattle.statements.specs.Statements.{comes_first}
 use Rattle.wire.specs.Wire.{answer_in}
 use Rattle.answers.specs.Answered.{answered}
 

@@ -8,7 +8,7 @@ use Rattle.bitset.specs.Members.{member}
 use Rattle.least.specs.Minima.{first}
 use Rattle.least.proofs.Minimal.{first_append}
 use Rattle.taps.specs.Readings.{Book, Read, costs}
-use Rattle.taps.specs.Plain.{read, reads_of}
+use Rattle.statements.specs.Plain.{read, reads_of}
 use Rattle.fit.specs.Fit.{fit, meets, first_meeting, change_cost, Wanted}
 use Rattle.fit.proofs.Left.{left, left_one, left_none, left_all}
 use Rattle.fit.proofs.Smallest.{filter_none, filter_first}

@@ -7,9 +7,9 @@ use Rattle.least.specs.Minima.{capped, over}
 use Rattle.least.proofs.Capped.{capped_below, capped_lower}
 use Rattle.least.proofs.Minimal.{over_found}
 use Rattle.taps.specs.Readings.{pick, Book, too_much}
-use Rattle.taps.specs.Plain.{read}
 use Rattle.taps.specs.Promise.{GoodBook}
-use Rattle.taps.proofs.Bound.{costs_little, most_besides}
+use Rattle.statements.specs.Plain.{read}
+use Rattle.statements.proofs.Bound.{costs_little, most_besides}
 use Rattle.fit.specs.Fit.{fit, allowed, least_fit, fits}
 use Rattle.fit.proofs.Left.{left, left_none, left_all, passing, failing}
 

@@ -8,8 +8,8 @@ use Rattle.least.specs.Minima.{first, Among, Sooner}
 use Rattle.least.proofs.Minimal.{First, first_is, first_same, least_more, over_numbers}
 use Rattle.least.proofs.Lists.{filter_from, filter_has, filter_sooner, numbers_within, numbers_have, numbers_sooner}
 use Rattle.taps.specs.Readings.{Book, Read, costs}
-use Rattle.taps.specs.Plain.{read, reads_of}
-use Rattle.taps.proofs.Gap.{lesser_or_same, of_kinds, kinds_have, kinds_sooner, read_first}
+use Rattle.statements.specs.Plain.{read, reads_of}
+use Rattle.statements.proofs.Gap.{lesser_or_same, of_kinds, kinds_have, kinds_sooner, read_first}
 use Rattle.fit.specs.Fit.{fit, allowed, least_fit, meets, first_meeting}
 use Rattle.fit.specs.Laws.{Allows, AllowsRead, Lowest, Earliest, Takes}
 

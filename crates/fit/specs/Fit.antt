@@ -9,7 +9,7 @@ use Rattle.std.specs.List.{range_with_len}
 use Rattle.bitset.specs.Members.{member}
 use Rattle.least.specs.Minima.{capped, over, first}
 use Rattle.taps.specs.Readings.{pick, Book, Read, apart, tempo_at, costs, too_much}
-use Rattle.taps.specs.Plain.{read, reads_of}
+use Rattle.statements.specs.Plain.{read, reads_of}
 
 abbrev pub fit : Book → ℕ → ℕ → ℕ → ℕ
 fit b gap k t = costs b 0 gap (read k t)

@@ -6,7 +6,7 @@ use Rattle.std.specs.Prelude.{◌≡◌, ℕ, ◌-◌, ◌<◌, ◌≤◌, true,
 use Rattle.bitset.specs.Members.{member}
 use Rattle.least.specs.Minima.{Least}
 use Rattle.taps.specs.Readings.{Book, Read, first_read}
-use Rattle.taps.specs.Plain.{read}
+use Rattle.statements.specs.Plain.{read}
 use Rattle.fit.specs.Fit.{fit, least_fit, meets, first_meeting}
 
 -- k is a kind of the book that the set allows; r is of such a kind, at a tempo of the book

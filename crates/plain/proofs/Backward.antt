@@ -7,8 +7,8 @@ use Rattle.least.proofs.Capped.{capped_least}
 use Rattle.least.proofs.Folds.{LeastFrom, Near, from_near}
 use Rattle.least.proofs.Minimal.{over_numbers}
 use Rattle.taps.specs.Readings.{Book, Read, costs, too_much}
-use Rattle.taps.specs.Plain.{read, reads_of}
-use Rattle.taps.proofs.Gap.{of_kinds, kinds_have}
+use Rattle.statements.specs.Plain.{read, reads_of}
+use Rattle.statements.proofs.Gap.{of_kinds, kinds_have}
 use Rattle.shift.specs.Shift.{Shifted}
 use Rattle.model.specs.Rows.{costs_in, backward}
 use Rattle.model.specs.declared.Step.{Step}

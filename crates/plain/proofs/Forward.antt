@@ -8,8 +8,8 @@ use Rattle.least.proofs.Folds.{LeastFrom, Near, from_near}
 use Rattle.least.proofs.Lists.{numbers_within, numbers_have}
 use Rattle.least.proofs.Meet.{StepCost, onward_least}
 use Rattle.taps.specs.Readings.{Book, apart, costs, tempo_at, too_much}
-use Rattle.taps.specs.Plain.{read}
-use Rattle.taps.proofs.Gap.{of_kinds, kinds_have}
+use Rattle.statements.specs.Plain.{read}
+use Rattle.statements.proofs.Gap.{of_kinds, kinds_have}
 use Rattle.shift.specs.Shift.{Shifted}
 use Rattle.model.specs.Rows.{costs_in, forward}
 use Rattle.model.specs.declared.Step.{Step}

@@ -11,10 +11,10 @@ use Rattle.least.specs.Readers.{suffix, told, begin, onward, along}
 use Rattle.least.specs.Readers as readers
 use Rattle.octets.specs.Bytes.{StartsWith, written}
 use Rattle.taps.specs.Readings.{Book, Read, costs, too_much, least, reading}
-use Rattle.taps.specs.Plain.{reads_of, all_reads, plain}
 use Rattle.taps.specs.Promise.{GoodBook}
-use Rattle.taps.proofs.Bound.{least_below}
-use Rattle.taps.proofs.Plain.{same_least, same_reading}
+use Rattle.statements.specs.Plain.{reads_of, all_reads, plain}
+use Rattle.statements.proofs.Bound.{least_below}
+use Rattle.statements.proofs.Plain.{same_least, same_reading}
 use Rattle.fit.specs.Fit.{fit, fits}
 use Rattle.fit.proofs.Sound.{allowed_all}
 use Rattle.model.specs.Rows as models

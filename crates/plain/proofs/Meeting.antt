@@ -2,7 +2,7 @@
 use Rattle.std.proofs.Common.{◌++◌, refl, sym, ap, ◌∙◌, arith}
 use Rattle.std.proofs.lemmas.List.FromFn.{get_or-map-range_with_len}
 use Rattle.taps.specs.Readings.{least}
-use Rattle.taps.specs.Plain.{plain}
+use Rattle.statements.specs.Plain.{plain}
 use Rattle.model.specs.Rows.{meeting}
 use Rattle.model.proofs.Steps.{ending_row, meeting_row}
 use Rattle.plain.specs.Laws.{RowsMeet}

@@ -3,7 +3,7 @@ use Rattle.std.proofs.Common.{◌≡◌, ℕ, ◌+◌, ◌≤◌, List, [], ◌�
 use Rattle.std.proofs.lemmas.List.FromFn.{length-map-range_with_len}
 use Rattle.least.specs.Readers.{prefix}
 use Rattle.taps.specs.Readings.{Book, least}
-use Rattle.taps.specs.Plain.{plain}
+use Rattle.statements.specs.Plain.{plain}
 use Rattle.model.proofs.Kept.{prefixes_size, prefixes_more}
 use Rattle.model.proofs.Numbers.{row_size}
 use Rattle.model.proofs.Tables.{suffixes_size}

@@ -6,10 +6,10 @@ use Rattle.least.specs.Minima.{Among}
 use Rattle.least.specs.Readers.{States}
 use Rattle.least.proofs.Numbered.{numbered}
 use Rattle.taps.specs.Readings.{Book, Read, costs}
-use Rattle.taps.specs.Plain.{read, reads_of, plain}
 use Rattle.taps.specs.Promise.{GoodBook}
-use Rattle.taps.proofs.Bound.{costs_little}
-use Rattle.taps.proofs.Gap.{of_kinds, kinds_have}
+use Rattle.statements.specs.Plain.{read, reads_of, plain}
+use Rattle.statements.proofs.Bound.{costs_little}
+use Rattle.statements.proofs.Gap.{of_kinds, kinds_have}
 use Rattle.model.specs.Laws.{Lawful}
 use Rattle.model.specs.declared.Step.{Step}
 use Rattle.model.proofs.Numbers.{row_size}

@@ -1,12 +1,12 @@
 -- The plain book as a reader of gaps that may be read as some of its kinds only. Assumes nothing: these are definitions.
 --
 -- A step is a gap with the kinds that it may be read as; a state is the tempo before, as one more than its place, or 0 where there is no gap before; a choice is a Read.
--- restricted: as the reader of `taps/specs/Plain.antt`, but for the kinds. fair: there is some kind to read the gap as.
+-- restricted: as the reader of `statements/specs/Plain.antt`, but for the kinds. fair: there is some kind to read the gap as.
 use Rattle.std.specs.Prelude.{◌≡◌, ℕ, suc, ◌<◌, Bool, true, All, List, [], ◌∷◌, map, length, nat_lt}
 use Rattle.bitset.specs.Members.{member}
 use Rattle.least.specs.Readers.{Reader}
 use Rattle.taps.specs.Readings.{Book, Read, costs}
-use Rattle.taps.specs.Plain.{reads_of}
+use Rattle.statements.specs.Plain.{reads_of}
 use Rattle.fit.specs.Fit.{allowed}
 use Rattle.model.specs.declared.Step.{Step}
 

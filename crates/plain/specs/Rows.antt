@@ -11,7 +11,7 @@ use Rattle.least.specs.Minima.{capped, over}
 use Rattle.least.specs.Readers.{prefix}
 use Rattle.model.specs.Rows.{states_below, row_of, for_suffixes, for_prefixes, kept_number}
 use Rattle.taps.specs.Readings.{Book, too_much, least}
-use Rattle.taps.specs.Plain.{plain}
+use Rattle.statements.specs.Plain.{plain}
 use Rattle.fit.specs.Fit.{fit}
 use Rattle.plain.specs.Owed.{plain_states}
 use Rattle.plain.specs.Restricted.{state_count, tempo_count}

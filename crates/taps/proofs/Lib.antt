@@ -2,12 +2,3 @@ pub mod Good
 pub mod Ends
 pub mod Between
 pub mod Picks
-pub mod Gap
-pub mod Plain
-pub mod Bound
-pub mod Whole
-pub mod Written
-pub mod Later
-pub mod More
-pub mod Off
-pub mod Worked

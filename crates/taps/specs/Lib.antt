@@ -1,5 +1,4 @@
 pub mod Readings
-pub mod Plain
 pub mod Calls
 pub mod Promise
 pub mod Items

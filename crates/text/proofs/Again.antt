@@ -7,8 +7,9 @@ use Rattle.std.proofs.lemmas.Bool.Decides.{nat_tests}
 use Rattle.std.proofs.lemmas.List.{length-append}
 use Rattle.std.proofs.lemmas.Slice.Eq.{bytes_eq-Decides}
 use Rattle.taps.specs.Readings.{Book, Read, kind_at, tempo_at, in_book, apart, pick, costs, all_cost, reading}
-use Rattle.taps.specs.Promise.{GoodBook, Least}
-use Rattle.taps.proofs.Whole.{least_stands}
+use Rattle.taps.specs.Promise.{GoodBook}
+use Rattle.statements.specs.Statements.{Least}
+use Rattle.statements.proofs.Whole.{least_stands}
 use Rattle.text.specs.Lines.{note_text, reading_text}
 use Rattle.text.specs.Laws.{ReadingsRead, BestRead}
 use Rattle.text.specs.Notes.{and_then, note_in, notes_in, reading_in, reading_of_tokens}

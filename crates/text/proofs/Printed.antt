@@ -12,7 +12,7 @@ use Rattle.tokens.proofs.Numbers.{number_reads}
 use Rattle.tokens.proofs.Printed.{number_some, number_whole}
 use Rattle.taps.specs.Readings.{Book, Read, kind_at, tempo_at}
 use Rattle.taps.specs.Promise.{GoodBook}
-use Rattle.taps.proofs.Bound.{kind_good, tempo_good}
+use Rattle.statements.proofs.Bound.{kind_good, tempo_good}
 use Rattle.text.specs.Lines.{note_text, reading_text}
 use Rattle.text.specs.Notes.{is_at, lightest, note_in, read_as, read_at, read_in, read_of_note}
 use Rattle.text.specs.declared.reading.Unread.TheVariants.{NotInBook}

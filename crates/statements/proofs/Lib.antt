@@ -1,0 +1,9 @@
+pub mod Gap
+pub mod Plain
+pub mod Bound
+pub mod Whole
+pub mod Written
+pub mod Later
+pub mod More
+pub mod Off
+pub mod Worked

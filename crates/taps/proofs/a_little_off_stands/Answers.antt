@@ -1,5 +1,0 @@
-use Rattle.taps.proofs.Off.{a_little_off_stands}
-use Rattle.taps.proofs.a_little_off_stands.Goals as goal
-
-pub returns : goal.returns
-returns c = a_little_off_stands
