@@ -1,8 +1,8 @@
 -- The words in front of a desk's memory: what is written there is read again. Assumes nothing.
-use Rattle.std.proofs.Common.{◌≡◌, ℕ, zero, suc, ◌+◌, ◌*◌, ◌-◌, ◌≤◌, true, ◌&&◌, nat_le, slice_index, None, List, [], ◌∷◌, ◌++◌, length, take, drop, replicate, map, set, Some, refl, sym, ap, ◌∙◌, subst, arith}
+use Rattle.std.proofs.Common.{◌≡◌, ℕ, zero, suc, ◌+◌, ◌*◌, ◌-◌, ◌<◌, ◌≤◌, true, false, ◌&&◌, nat_le, slice_index, None, List, [], ◌∷◌, ◌++◌, length, take, drop, replicate, map, set, Some, Option, refl, sym, ap, ◌∙◌, subst, arith}
 use Rattle.std.proofs.lemmas.Bool.{le-leb}
 use Rattle.std.proofs.lemmas.Bool.Decides.{nat_tests}
-use Rattle.std.proofs.lemmas.List.{get_or-take, length-replicate, take_at, length-append, length-take-le, take-take, drop-take}
+use Rattle.std.proofs.lemmas.List.{get_or-take, length-replicate, map-id, take_at, length-append, length-take-le, take-take, drop-take}
 use borrow.Rule.Slice.PartMut.{put_mid}
 use Rattle.std.specs.List.{flat_map, list_all}
 use Rattle.std.specs.Simd.{first_chunks}
@@ -96,3 +96,38 @@ head_front n words far fits =
     picked _ _ _ (le-leb 39 (length (take n words)) long)
     ∙ (λ j. opened_with (pick (nat_le (size j) 296) (book_in (take (size j) (flat_map eight (bytes j)))) None) (most j))
     ∙ sym (picked _ _ _ (le-leb 39 (length words) (omega (arith, far, fits))))
+
+-- words with too few of them hold nothing
+pub too_few : (words : List ℕ) → length words < 39 → None ≡ setup_in words
+too_few words few =
+    let test : nat_le 39 (length words) ≡ false = grind (arith, nat_tests, few) in
+    sym (ap (λ t. pick t (opened_with (book_held words) (slice_index words 0)) None) test)
+
+-- the first words, and the bytes of those behind the first two
+module _ (words head out : List ℕ) (long : 39 ≤ length words) (is : head ≡ take 39 words) (bytes : out ≡ flat_map eight (map (λ x. x) (take (length head - 2) (drop 2 head)))) where
+  bytes_are : flat_map eight (take 37 (drop 2 words)) ≡ out
+  bytes_are =
+      let many : length head - 2 ≡ 37 = omega (arith, ap length is, length-take-le 39 words long) in
+      let same : take (length head - 2) (drop 2 head) ≡ take 37 (drop 2 words) = (λ j. take (many j) (drop 2 (is j))) ∙ take_front 2 37 39 words (omega arith) in
+      sym (bytes ∙ ap (flat_map eight) (map-id _ ∙ same))
+
+  first : (i : ℕ) → i < 39 → slice_index words i ≡ slice_index head i
+  first i inside = sym (ap (λ ws. slice_index ws i) is ∙ get_or-take 39 words i 0 inside)
+
+  held_is : setup_in words ≡ opened_with (pick (nat_le (slice_index head 1) 296) (book_in (take (slice_index head 1) out)) None) (slice_index head 0)
+  held_is =
+      let most = first 0 (omega arith) in
+      let size = first 1 (omega arith) in
+      picked _ _ _ (le-leb 39 (length words) long) ∙ (λ j. opened_with (pick (nat_le (size j) 296) (book_in (take (size j) (bytes_are j))) None) (most j))
+
+  -- a book's size that is too large, bytes that are no book, and a book
+  module _ (size : length out ≡ 296) where
+    pub too_large : length out < slice_index head 1 → None ≡ setup_in words
+    too_large more =
+        let test : nat_le (slice_index head 1) 296 ≡ false = grind (arith, nat_tests, more, size) in
+        sym (held_is ∙ ap (λ t. opened_with (pick t (book_in (take (slice_index head 1) out)) None) (slice_index head 0)) test)
+
+    pub with_book : (book : List ℕ) (o : Option Book) → slice_index head 1 ≤ length out → book ≡ take (slice_index head 1) out → o ≡ book_in book → opened_with o (slice_index head 0) ≡ setup_in words
+    with_book book o fits cut read =
+        let test = picked _ (book_in (take (slice_index head 1) out)) None (le-leb (slice_index head 1) 296 (omega (arith, fits, size))) in
+        sym (held_is ∙ ap (λ p. opened_with p (slice_index head 0)) (test ∙ sym (read ∙ ap book_in cut)))
