@@ -3,4 +3,3 @@ pub mod Kept
 pub mod Returned
 pub mod Always
 pub mod Promised
-pub mod Each

@@ -1,21 +1,21 @@
 -- What is told of the best reading, of taps as a desk holds them, is right of all readings. Assumes nothing.
-use Rattle.std.proofs.Common.{ℕ, ◌≤◌, List, [], ◌∷◌, length, Some, None, Option, refl, sym, ◌∙◌, subst, arith}
+use Rattle.std.proofs.Common.{ℕ, ◌≤◌, List, length, Some, None, Option, refl, sym, ◌∙◌, subst, arith}
 use Rattle.std.specs.Option.{IfSome}
 use Rattle.taps.specs.Readings.{Book, least, reading}
 use Rattle.taps.specs.Calls as calls
-use Rattle.taps.specs.Calls.{gaps, turned, told, after, answer, answers}
+use Rattle.taps.specs.Calls.{gaps, turned, told, answer}
 use Rattle.taps.specs.Promise.{GoodBook}
 use Rattle.taps.proofs.Between.{length_gaps}
 use Rattle.statements.specs.Statements.{Least, First}
 use Rattle.statements.proofs.Whole.{least_stands, first_stands}
 use Rattle.onsets.specs.Laws.{Sound}
-use Rattle.onsets.proofs.Sound.{gaps_small, after_sound}
+use Rattle.onsets.proofs.Sound.{gaps_small}
 use Rattle.taps.specs.Values.{call_of, answer_of}
 use Rattle.taps.specs.declared.answer.Answer.{Answer}
 use Rattle.taps.specs.declared.call.Call.{Call}
 use Rattle.onsets.specs.Onsets.{limit_of, taps_in}
 use Rattle.answers.specs.Answered.{Answerable, Answered, Held}
-use Rattle.answers.specs.Laws.{Best, AllBest}
+use Rattle.answers.specs.Laws.{Best}
 
 pub best : (b : Book) (most : ℕ) (ts : List ℕ) (c : calls.Call) → GoodBook b → Sound most ts → most ≤ 256 → Best b ts c (answer b most ts c)
 unfolding turned told Least First
@@ -50,9 +50,3 @@ pub best_told : (b : Book) (words kept : List ℕ) (space : ℕ) (c : Call) (tol
     (Answerable b words kept (call_of c) → Answered b (limit_of words) (length kept) space (taps_in words) c told) → IfSome told (λ a. Held b words kept → Best b (taps_in words) (call_of c) (answer_of a))
 best_told b words kept space c None good few is = tt
 best_told b words kept space c (Some a) good few is = λ held. subst (Best b (taps_in words) (call_of c)) (sym (is (held_sure b words kept (call_of c) held)).1) (best b (limit_of words) (taps_in words) (call_of c) good held.sound few)
-
--- and so are the answers to any list of calls
-pub all_best : (b : Book) (most : ℕ) (ts : List ℕ) (cs : List calls.Call) → GoodBook b → Sound most ts → most ≤ 256 → AllBest b most ts cs (answers b most ts cs)
-unfolding AllBest answers
-all_best b most ts [] good sound few = refl
-all_best b most ts (c ∷ cs) good sound few = (best b most ts c good sound few, all_best b most (after most ts c) cs good (after_sound most ts c sound) few)

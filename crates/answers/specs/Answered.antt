@@ -87,15 +87,6 @@ rows_after b ts calls.cost old = old
 rows_after b ts calls.read old = rows_left b (gaps ts) old
 rows_after b ts (calls.garbled p) old = old
 
--- both after a list of calls, one after another
-unfoldable pub kept_ran : Book → ℕ → List ℕ → List calls.Call → List ℕ → List ℕ
-kept_ran b most ts [] old = old
-kept_ran b most ts (c ∷ cs) old = kept_ran b most (after most ts c) cs (kept_after b most ts c old)
-
-unfoldable pub rows_ran : Book → ℕ → List ℕ → List calls.Call → List ℕ → List ℕ
-rows_ran b most ts [] old = old
-rows_ran b most ts (c ∷ cs) old = rows_ran b most (after most ts c) cs (rows_after b ts c old)
-
 -- the answer in bytes: how many are told, where they are written into `out`, a lent slice, and what is left in it
 unfoldable pub told_of : Book → ℕ → ℕ → ℕ → List ℕ → calls.Call → List ℕ → Option ℕ
 told_of b most kept rows ts c out = pick (answered b most kept rows c) (room (answer_bytes (answer b most ts c)) out) None

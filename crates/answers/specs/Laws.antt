@@ -1,10 +1,10 @@
 -- What holds of answers. The last is a statement: a type, whose proof is owed by the function whose contract names it. Assumes nothing.
 --
 -- Best: what an answer about the best reading says of all readings.
-use Rattle.std.specs.Prelude.{◌≡◌, ℕ, ◌≤◌, true, List, [], ◌∷◌, length, Some}
+use Rattle.std.specs.Prelude.{◌≡◌, ℕ, ◌≤◌, true, List, length, Some}
 use Rattle.taps.specs.Readings.{Book, Read, all_cost, in_book}
 use Rattle.taps.specs.Calls as calls
-use Rattle.taps.specs.Calls.{Answer, number, reads, gaps, after}
+use Rattle.taps.specs.Calls.{Answer, number, reads, gaps}
 use Rattle.taps.specs.Promise.{GoodBook}
 use Rattle.statements.specs.Statements.{comes_first}
 use Rattle.wire.specs.Wire.{answer_in}
@@ -36,12 +36,6 @@ Best b ts (calls.garbled p) a = Unit {0}
 -- bytes are read as such an answer
 abbrev pub BestIn : Book → List ℕ → calls.Call → List ℕ → Type 0
 BestIn b ts c bytes = (a : Answer) × (answer_in bytes ≡ Some a) × Best b ts c a
-
--- each answer to a list of calls, one after another, is such an answer
-unfoldable pub AllBest : Book → ℕ → List ℕ → List calls.Call → List Answer → Type 0
-AllBest b most ts [] told = told ≡ []
-AllBest b most ts (c ∷ cs) [] = ⊥
-AllBest b most ts (c ∷ cs) (a ∷ told) = Best b ts c a × AllBest b most (after most ts c) cs told
 
 -- every call is answered, where as many words are lent as any rows take
 unfoldable pub AlwaysAnswered : Type 0

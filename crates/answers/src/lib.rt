@@ -1,36 +1,31 @@
-// Calls answered over lent words that hold the taps: one as a value or by its bytes, and many one after another.
+// Calls answered over lent words that hold the taps, as values or by their bytes.
 //
 // While taps come and are taken back, the rows of `plain` from the first gap on are kept in other words: a tap adds one
 // row, and what the best reading costs is read in the last. The rows from the last gap on, which tell the best reading,
 // are made in words of their own when it is asked for. `specs/Answered.antt` says what a call is answered, and what it
 // leaves in every word, of words as a desk holds them (`Held`): what the definitions of calls say, for the book;
-// `specs/Laws.antt` says that what is told of the best reading is right. Read `answer_call` first, and then
-// `answer_calls`.
+// `specs/Laws.antt` says that what is told of the best reading is right. Read `answer_call` first.
 #![tactic(auto)]
 
-ghost use Rattle.std.specs.Prelude.{◌≡◌, ◌-◌, ◌<◌, ◌≤◌, true, false, ◌&&◌, [], ◌∷◌, ◌++◌, length, map, take, drop, replicate, Some, None, nat_le, IfNone, IfSome, MatchOption};
+ghost use Rattle.std.specs.Prelude.{◌≡◌, ◌-◌, ◌<◌, ◌≤◌, true, false, [], ◌∷◌, ◌++◌, length, take, Some, None, IfNone, IfSome, MatchOption};
 ghost use Rattle.std.specs.Option.{IsSome, option_map};
 ghost use Rattle.octets.specs.Bytes.{written};
-ghost use Rattle.taps.specs.Calls.{after, answer, answers, gaps, taps, turned};
+ghost use Rattle.taps.specs.Calls.{after, answer, gaps, taps, turned};
 ghost use Rattle.taps.specs.Items.{items};
 ghost use Rattle.taps.specs.Promise.{small};
 ghost use Rattle.taps.specs.Readings.{least, pick, reading};
 ghost use Rattle.taps.specs.Values.{answer_of, book_of, call_of, reading_of};
-ghost use Rattle.onsets.specs.Laws.{words_ran};
 ghost use Rattle.onsets.specs.Onsets.{limit_of, taps_in, words_after};
 ghost use Rattle.plain.specs.Restricted.{Free, gaps_of};
 ghost use Rattle.plain.specs.Rows.{kept_size, rows_size};
 ghost use Rattle.wire.specs.Wire.{call_in};
-ghost use Rattle.answers.specs.Answered.{Answerable, Held, IsAnswer, adds, heard, is_answered, kept_of, kept_ran, kept_then, left_bytes, reads_rows, roomy, rows_left, rows_ran, rows_then, told_bytes};
-ghost use Rattle.answers.specs.Laws.{AllBest, AlwaysAnswered, Best, BestIn};
+ghost use Rattle.answers.specs.Answered.{Answerable, Held, IsAnswer, adds, heard, is_answered, kept_of, kept_then, left_bytes, reads_rows, roomy, rows_left, rows_then, told_bytes};
+ghost use Rattle.answers.specs.Laws.{AlwaysAnswered, Best, BestIn};
 
 use bitset::BitSet;
 use model::Step;
-use onsets::{append, check, clear, count, gap, last, limit, take_back};
-use plain::{
-    MOST_KEPT_WORDS, MOST_ROW_WORDS, first_reading, keep_gap, keep_start, kept_cost, kept_words,
-    row_words,
-};
+use onsets::{append, check, count, gap, last, limit, take_back};
+use plain::{first_reading, keep_gap, keep_start, kept_cost, kept_words, row_words};
 use taps::answer::Answer;
 use taps::book::Book;
 use taps::call::{Call, TIME_END};
@@ -103,62 +98,10 @@ pub fn answer_call(
     }
 }
 
-// Answers calls one after another, from no taps on, and says how many; none where there is no room for all answers, or
-// for the rows of any taps. What is told is right of all readings, as for `answer_call`.
-pub fn answer_calls(
-    book: &Book,
-    words: &mut [u64],
-    kept: &mut [u64],
-    rows: &mut [u64],
-    calls: &[Call],
-    told: &mut [Answer],
-) -> Option<usize>
-    ensures value { result ≡ pick ((nat_le 32960 (length kept.old) && nat_le 16640 (length rows.old)) && nat_le (length calls.now) (length told.old)) (Some (length calls.now)) None }
-    ensures told { MatchOption result (told.new ≡ told.old) (λ n. (map answer_of (take n told.new) ≡ answers (book_of book.now) (limit_of words.old) [] (map call_of calls.now)) × (drop n told.new ≡ drop n told.old)) }
-    ensures best { IfSome result (λ n. AllBest (book_of book.now) (limit_of words.old) [] (map call_of calls.now) (map answer_of (take n told.new))) }
-    ensures words { MatchOption result (words.new ≡ words.old) (λ _. words.new ≡ words_ran (replicate (length words.old) 0) (map call_of calls.now)) }
-    ensures kept { MatchOption result (kept.new ≡ kept.old) (λ _. kept.new ≡ kept_ran (book_of book.now) (limit_of words.old) [] (map call_of calls.now) kept.old) }
-    ensures rows { MatchOption result (rows.new ≡ rows.old) (λ _. rows.new ≡ rows_ran (book_of book.now) (limit_of words.old) [] (map call_of calls.now) rows.old) }
-{
-    if kept.len() < MOST_KEPT_WORDS || rows.len() < MOST_ROW_WORDS {
-        return None;
-    }
-    let (front, _) = told.split_at_mut_checked(calls.len())?;
-    clear(words);
-    answer_each(book, words, kept, rows, calls, front);
-    Some(calls.len())
-}
-
 // Every call is answered, where as many words are lent as any rows take.
 pub fn always_answered_stands()
     ensures { AlwaysAnswered }
 {}
-
-// Answers as many calls as there are places for what is told.
-fn answer_each(
-    book: &Book,
-    words: &mut [u64],
-    kept: &mut [u64],
-    rows: &mut [u64],
-    calls: &[Call],
-    told: &mut [Answer],
-)
-    requires size { length told.old ≡ length calls.now }
-    requires kept { 32960 ≤ length kept.old }
-    requires room { 16640 ≤ length rows.old }
-    requires held { Held (book_of book.now) words.old kept.old }
-    ensures told { map answer_of told.new ≡ answers (book_of book.now) (limit_of words.old) (taps_in words.old) (map call_of calls.now) }
-    ensures words { words.new ≡ words_ran words.old (map call_of calls.now) }
-    ensures kept { kept.new ≡ kept_ran (book_of book.now) (limit_of words.old) (taps_in words.old) (map call_of calls.now) kept.old }
-    ensures rows { rows.new ≡ rows_ran (book_of book.now) (limit_of words.old) (taps_in words.old) (map call_of calls.now) rows.old }
-{
-    for (i, call) in calls.iter().enumerate() {
-        let Some(answer) = answer_call(book, words, kept, rows, *call) else {
-            unreachable!()
-        };
-        told[i] = answer;
-    }
-}
 
 // Whether the words have room for the rows of as many taps as the limit.
 fn has_room(book: &Book, words: &[u64], kept: &[u64], rows: &[u64]) -> bool

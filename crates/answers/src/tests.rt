@@ -1,8 +1,7 @@
-// Calls answered one by one and all together, in the book of the README.
-use crate::{answer_call, answer_calls};
+// Calls answered one after another, in the book of the README.
+use crate::answer_call;
 use onsets::MOST_WORDS;
 use plain::{MOST_KEPT_WORDS, MOST_ROW_WORDS};
-use std::test::Fail;
 use taps::answer::Answer;
 use taps::built_in::built_in_book;
 use taps::call::Call;
@@ -93,55 +92,38 @@ fn number(answer: Answer) -> (u8, u64) {
 }
 
 #[test]
-fn calls_one_after_another(rt: HostRuntime) -> Result<(), Fail> {
+fn calls_one_after_another(rt: HostRuntime) {
     let calls = [
-        Call::Read,
-        Call::Tap(100),
-        Call::Tap(100),
-        Call::Tap(340),
-        Call::Cost,
-        Call::Read,
-        Call::Tap(16777216),
-        Call::Back,
-        Call::Back,
-        Call::Back,
+        (Call::Read, (2, 0)),
+        (Call::Tap(100), (1, 0)),
+        (Call::Tap(100), (0, 4)),
+        (Call::Tap(340), (1, 1)),
+        (Call::Cost, (1, 720)),
+        (Call::Read, (2, 1)),
+        (Call::Tap(16777216), (0, 2)),
+        (Call::Back, (1, 1)),
+        (Call::Back, (1, 0)),
+        (Call::Back, (0, 5)),
     ];
-    let mut told = [Answer::Number(7); 11];
-    let mut words = [5; MOST_WORDS];
+    let book = &built_in_book();
+    let mut words = [0; MOST_WORDS];
     let mut kept = [5; MOST_KEPT_WORDS];
     let mut rows = [0; MOST_ROW_WORDS];
-    let book = &built_in_book();
-    let Some(count) = answer_calls(book, &mut words, &mut kept, &mut rows, &calls, &mut told) else {
-        return Err(Fail::new("no room"));
-    };
-    assert_eq!(rt; count, 10);
-    let numbers = told.map(number);
-    assert!(rt; numbers[..6] == [(2, 0), (1, 0), (0, 4), (1, 1), (1, 720), (2, 1)]);
-    assert!(rt; numbers[6..] == [(0, 2), (1, 1), (1, 0), (0, 5), (1, 7)]);
-    Ok(())
+    for (call, told) in calls {
+        let answer = answer_call(book, &mut words, &mut kept, &mut rows, call);
+        assert!(rt; answer.map(number) == Some(told));
+    }
 }
 
-#[test]
-fn calls_without_room(rt: HostRuntime) {
-    let book = &built_in_book();
-    let mut words = [5; MOST_WORDS];
-    let mut kept = [5; MOST_KEPT_WORDS];
-    let mut rows = [0; MOST_ROW_WORDS];
-    let mut told = [Answer::Number(7); 1];
-    let calls = [Call::Back, Call::Back];
-    assert!(rt; answer_calls(book, &mut words, &mut kept, &mut rows, &calls, &mut told).is_none());
-    assert!(rt; words == [5; MOST_WORDS]);
-    assert!(rt; number(told[0]) == (1, 7));
-}
-
+// With four tempi the rows of as many taps as the limit take 256 times five words.
 #[test]
 fn calls_without_room_for_rows(rt: HostRuntime) {
     let book = &built_in_book();
     let mut words = [5; MOST_WORDS];
     let mut kept = [5; MOST_KEPT_WORDS];
-    let mut rows = [0; MOST_ROW_WORDS - 1];
-    let mut told = [Answer::Number(7); 1];
-    let calls = [Call::Back];
-    assert!(rt; answer_calls(book, &mut words, &mut kept, &mut rows, &calls, &mut told).is_none());
+    let mut rows = [0; 256 * 5 - 1];
+    assert!(rt; answer_call(book, &mut words, &mut kept, &mut rows, Call::Back).is_none());
     assert!(rt; words == [5; MOST_WORDS]);
+    let mut rows = [0; 256 * 5];
+    assert!(rt; answer_call(book, &mut words, &mut kept, &mut rows, Call::Back).is_some());
 }

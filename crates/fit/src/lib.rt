@@ -1,16 +1,16 @@
 // What each kind of note costs at each tempo, for one gap.
 //
 // A gap costs how far twelve times it is from the kind's ticks times the tempo, and the kind's weight; a change of tempo
-// counts in `cost_of` and `first_met` alone. `fill` writes the least over the kinds for each tempo, as a row of the
-// dynamic program wants it, and `first_met` finds the read that attains a cost. Both take the set of kinds that the gap
-// may be read as, and a gap below 2^24 ms, so that what it costs as a kind fits 29 bits. `specs/Fit.antt` says what they
-// answer. Read `fill` first.
+// counts in `first_met` alone. `fill` writes the least over the kinds for each tempo, as a row of the dynamic program
+// wants it, and `first_met` finds the read that attains a cost. Both take the set of kinds that the gap may be read as,
+// and a gap below 2^24 ms, so that what it costs as a kind fits 29 bits. `specs/Fit.antt` says what they answer. Read
+// `fill` first.
 #![tactic(auto)]
 
 ghost use Rattle.std.specs.Prelude.{◌≡◌, ◌+◌, ◌*◌, ℕ, ◌<◌, min, length, pos, ◌-ℤ◌, IfSome, ◌==◌, slice_index};
 ghost use Rattle.std.specs.Option.{option_map};
-ghost use Rattle.taps.specs.Readings.{apart, costs, pick, too_much};
-ghost use Rattle.taps.specs.Values.{book_of, kinds_of, read_of, tempi_of};
+ghost use Rattle.taps.specs.Readings.{apart, pick, too_much};
+ghost use Rattle.taps.specs.Values.{book_of, read_of, tempi_of};
 ghost use Rattle.fit.specs.Fit.{Wanted, before_of, change_cost, first_meeting, fits};
 ghost use Rattle.fit.specs.Laws.{Earliest, Lowest, Takes};
 
@@ -82,24 +82,6 @@ pub fn first_met(
         open = open.without(k);
     }
     found
-}
-
-// What the gap costs read so, after a tempo if there is one before.
-pub fn cost_of(book: &Book, before: Option<usize>, gap: u32, read: Read) -> u64
-    requires before { IfSome before (λ s. s < length (tempi_of book.now.tempi)) }
-    requires gap { gap < 16777216 }
-    requires kind { read.kind < length (kinds_of book.now.kinds) }
-    requires tempo { read.tempo < length (tempi_of book.now.tempi) }
-    ensures { result ≡ costs (book_of book.now) (before_of before) gap (read_of read) }
-{
-    let kinds = book.kinds.list.as_slice();
-    let tempi = book.tempi.list.as_slice();
-    let tempo = tempi[usize::from(read.tempo)];
-    let here = u64::from(fit(kinds[usize::from(read.kind)], tempo, gap));
-    match before {
-        Some(s) => here + u64::from(book.change) * u64::from(tempi[s].abs_diff(tempo)),
-        None => here,
-    }
 }
 
 // A row has the least of the kinds allowed, and what is found is the first read that meets the cost: where all kinds are

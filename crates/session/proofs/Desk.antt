@@ -8,16 +8,15 @@ use Rattle.taps.specs.Calls.{turned, changed, after, answers, ran}
 use Rattle.taps.specs.Promise.{GoodBook, Memory, Desk, told_by, left_by, Right, RefusalKeeps}
 use Rattle.octets.specs.Bytes.{written}
 use Rattle.octets.proofs.Front.{starts_same}
-use Rattle.onsets.specs.Laws.{sound_words}
+use Rattle.onsets.specs.Laws.{Sound, sound_words}
 use Rattle.onsets.specs.Onsets.{limit_of, taps_in, words_after}
-use Rattle.onsets.proofs.Sound.{none_sound, sound_words_after}
+use Rattle.onsets.proofs.Sound.{after_sound, none_sound, sound_words_after}
 use Rattle.onsets.proofs.Words.{taps_after}
 use Rattle.answers.specs.Answered.{kept_after, kept_of, rows_after}
-use Rattle.answers.specs.Laws.{AllBest}
 use Rattle.answers.proofs.Kept.{held_after}
-use Rattle.answers.proofs.Promised.{all_best}
+use Rattle.answers.proofs.Promised.{best}
 use Rattle.plain.specs.Rows.{kept_size}
-use Rattle.session.specs.Laws.{StaysDesk, TellsBest}
+use Rattle.session.specs.Laws.{AllBest, StaysDesk, TellsBest}
 use Rattle.session.specs.Layout.{half, kept_words, left_opened, own, right_opened, setup_in, taps_words}
 use Rattle.session.specs.Session.{Stands, desk, left_after, next_of, right_after, said, says_of}
 use Rattle.session.proofs.Opened.{opened_stands, opened_none}
@@ -184,6 +183,12 @@ desk_stays b most cs good few =
     let back = own_right b most done.left done.right is.setup is.left_size in
     subst (λ m. Stands b most (own b most m.words) (drop (half b most) m.words)) (sym done.is)
     (subst (λ ws. Stands b most ws (drop (half b most) (done.left ++ done.right))) (sym front) (subst (Stands b most done.left) (sym back) is))
+
+-- all that the definitions answer is right of all readings
+all_best : (b : Book) (most : ℕ) (us : List ℕ) (cs : List calls.Call) → GoodBook b → Sound most us → most ≤ 256 → AllBest b most us cs (answers b most us cs)
+unfolding AllBest answers
+all_best b most us [] good sound few = refl
+all_best b most us (c ∷ cs) good sound few = (best b most us c good sound few, all_best b most (after most us c) cs good (after_sound most us c sound) few)
 
 pub desk_best : TellsBest
 unfolding TellsBest

@@ -1,11 +1,11 @@
 -- The parts of a desk's words, and how many words they have. Assumes nothing.
-use Rattle.std.proofs.Common.{◌≡◌, ℕ, ◌+◌, ◌*◌, ◌-◌, ◌≤◌, true, false, List, ◌++◌, length, take, drop, None, Some, Option, IfNone, mul-le-mul, refl, ap, ◌∙◌, arith}
+use Rattle.std.proofs.Common.{◌≡◌, ℕ, ◌+◌, ◌*◌, ◌-◌, ◌≤◌, true, false, List, [], ◌∷◌, ◌++◌, length, take, drop, None, Some, Option, IfNone, mul-le-mul, refl, ap, ◌∙◌, arith}
 use Rattle.std.proofs.lemmas.Bool.{and_from, both_ways, le-leb}
 use Rattle.std.proofs.lemmas.List.{take_at, drop_at, length-append, length-take-le, length-drop}
 use Rattle.std.specs.Option.{IsSome, is_some}
 use Rattle.taps.specs.Readings.{Book}
 use Rattle.taps.specs.Calls as calls
-use Rattle.taps.specs.Calls.{turned}
+use Rattle.taps.specs.Calls.{gaps, turned}
 use Rattle.wire.specs.Wire.{answer_bytes}
 use Rattle.octets.proofs.Front.{written_size}
 use Rattle.onsets.specs.Onsets.{limit_of, taps_in, words_after}
@@ -13,9 +13,8 @@ use Rattle.onsets.proofs.Sound.{after_size}
 use Rattle.onsets.proofs.Words.{count_is}
 use Rattle.plain.specs.Rows.{kept_size, rows_size}
 use Rattle.plain.proofs.Room.{most_room, rows_fewer}
-use Rattle.answers.specs.Answered.{Answerable, adds, is_answered, kept_of, roomy}
+use Rattle.answers.specs.Answered.{Answerable, adds, is_answered, kept_of, roomy, rows_after, rows_left}
 use Rattle.answers.proofs.Always.{where_roomy}
-use Rattle.answers.proofs.Each.{rows_length}
 use Rattle.answers.proofs.Returned.{answer_short}
 use Rattle.session.specs.Laws.{Spares}
 use Rattle.session.specs.Layout.{half, kept_words, taps_words}
@@ -37,6 +36,18 @@ module _ (most : ℕ) (head words kept : List ℕ) (size_head : length head ≡ 
 
   size_of_parts : (k : ℕ) → length kept ≡ k → length (head ++ (words ++ kept)) ≡ 39 + (most + 1) + k
   size_of_parts k size_kept = omega (arith, length-append head (words ++ kept), length-append words kept, size_head, size_words, size_kept)
+
+-- no call makes the words for rows more or fewer
+left_size : (b : Book) (gs old : List ℕ) → length (rows_left b gs old) ≡ length old
+left_size b [] old = refl
+left_size b (g ∷ gs) old = written_size _ old
+
+rows_length : (b : Book) (ts : List ℕ) (c : calls.Call) (old : List ℕ) → length (rows_after b ts c old) ≡ length old
+rows_length b ts (calls.taps t) old = refl
+rows_length b ts calls.back old = refl
+rows_length b ts calls.cost old = refl
+rows_length b ts calls.read old = left_size b (gaps ts) old
+rows_length b ts (calls.garbled p) old = refl
 
 none_told : IsSome {T = ℕ} None → ⊥
 none_told some = both_ways (is_some {T = ℕ} None) refl some
