@@ -1,5 +1,6 @@
 -- What is told of lines, one by one, and the memory after them. Assumes nothing.
-use Rattle.std.proofs.Common.{◌≡◌, ℕ, ◌+◌, List, [], ◌∷◌, ◌++◌, length, take, append-nil, append_assoc, Ok, Err, Result, IfErr, refl, sym, ap, ◌∙◌, subst}
+use Rattle.std.proofs.Common.{◌≡◌, ℕ, suc, ◌+◌, ◌≤◌, List, [], ◌∷◌, ◌++◌, length, take, append-nil, append_assoc, Ok, Err, Result, IfErr, refl, sym, ap, ◌∙◌, subst, arith}
+use Rattle.std.proofs.lemmas.List.{length-append, take_at}
 use Rattle.taps.specs.Readings.{Book}
 use Rattle.taps.specs.Calls as calls
 use Rattle.taps.specs.Calls.{Answer, after, answer, answers, ran}
@@ -35,10 +36,16 @@ pub told_none : (b : Book) (most : ℕ) (ts : List ℕ) (n : ℕ) → told_of b 
 unfolding answers
 told_none b most ts n = refl
 
+-- a call for each line
+pub length_calls : (n : ℕ) (ls : List (List ℕ)) → length (calls_in n ls) ≡ length ls
+length_calls n [] = refl
+length_calls n (l ∷ ls) = ap suc (length_calls (n + 1) ls)
+
 -- some calls of all, of which those are left that the lines from the number n on are
 module _ (b : Book) (most : ℕ) (left right : List ℕ) (all : List calls.Call) where
   pub record Done (n : ℕ) (text : List ℕ) (left_new right_new : List ℕ) : Type 0 where
     pub taken : List calls.Call
+    pub count : length taken ≡ n
     pub others : taken ++ calls_in n (lines_in text) ≡ all
     pub came : (cs : List calls.Call) → Came b most cs left right → Came b most (cs ++ taken) left_new right_new
 
@@ -49,6 +56,7 @@ module _ (b : Book) (most : ℕ) (left right : List ℕ) (all : List calls.Call)
       let both : (book, limit) ≡ (b, most) = λ i. (same i, still i) in
       record {
         taken = done.taken ++ call_at n line ∷ [];
+        count = length-append done.taken (call_at n line ∷ []) ∙ ap (λ k. k + 1) done.count;
         others = append_assoc done.taken (call_at n line ∷ []) (calls_in (n + 1) (lines_in behind)) ∙ ap (λ ls. done.taken ++ calls_in n ls) (sym split) ∙ done.others;
         came = λ cs first.
             let before : Came book limit (cs ++ done.taken) left_old right_old = subst (λ (p : Book × ℕ). Came p.0 p.1 (cs ++ done.taken) left_old right_old) (sym both) (done.came cs first) in
@@ -57,13 +65,12 @@ module _ (b : Book) (most : ℕ) (left right : List ℕ) (all : List calls.Call)
       }
 
   -- they are the first of all
-  pub done_first : (n : ℕ) (text left_new right_new : List ℕ) → Done n text left_new right_new → (cs : List calls.Call) → Came b most cs left right → (k : ℕ) × Came b most (cs ++ take k all) left_new right_new
-  done_first n text left_new right_new done cs first =
-      (length done.taken, subst (λ ds. Came b most (cs ++ ds) left_new right_new) (sym (ap (take (length done.taken)) (sym done.others) ∙ take_front done.taken (calls_in n (lines_in text)))) (done.came cs first))
-    where
-      take_front : (xs ys : List calls.Call) → take (length xs) (xs ++ ys) ≡ xs
-      take_front [] ys = refl
-      take_front (x ∷ xs) ys = ap (λ zs. x ∷ zs) (take_front xs ys)
+  pub done_first : (n : ℕ) (text left_new right_new : List ℕ) → Done n text left_new right_new → (n ≤ length all) × ((cs : List calls.Call) → Came b most cs left right → Came b most (cs ++ take n all) left_new right_new)
+  done_first n text left_new right_new done =
+      let first : take n all ≡ done.taken = ap (take n) (sym done.others) ∙ take_at done.taken (calls_in n (lines_in text)) n done.count in (
+        omega (arith, done.count, ap length done.others, length-append done.taken (calls_in n (lines_in text))),
+        λ cs came. subst (λ ds. Came b most (cs ++ ds) left_new right_new) (sym first) (done.came cs came),
+      )
 
   -- and all, where no line is left
   pub done_all : (n : ℕ) (left_new right_new : List ℕ) → Done n [] left_new right_new → (cs : List calls.Call) → Came b most cs left right → Came b most (cs ++ all) left_new right_new

@@ -1,5 +1,5 @@
 // A book, and the memory of a desk that was opened with it.
-ghost use Rattle.std.specs.Prelude.{◌≡◌, ℕ, List, [], ◌∷◌, ◌++◌, take, Some, Err, IfErr, IfOk, is_ok, nat_le};
+ghost use Rattle.std.specs.Prelude.{◌≡◌, ℕ, ◌<◌, ◌≤◌, List, [], ◌∷◌, ◌++◌, length, take, Some, Err, IfErr, IfOk, is_ok, nat_le};
 ghost use Rattle.std.specs.String.{string_bytes};
 ghost use Rattle.taps.specs.Calls as calls;
 ghost use Rattle.taps.specs.Calls.{after, answer, answers, ran};
@@ -97,13 +97,13 @@ impl OpenDesk {
         Reply::Answered(self.ask(call))
     }
 
-    // Answers the lines of a text, a line each. Where no memory is to be had for that, some of the first calls are taken,
-    // and nothing is told.
+    // Answers the lines of a text, a line each. Where no memory is to be had for that, nothing is told, and the desk is as
+    // it is after the calls of the first lines: of one at least, and at most of all.
     pub fn answer_lines(&mut self, alloc: Global, text: &[u8]) -> Result<String, AllocError>
         ensures same { (self.new.book ≡ self.old.book) × (self.new.limit ≡ self.old.limit) }
         ensures value { IfOk result (λ told. string_bytes told ≡ answers_text (book_of self.old.book) (answers (book_of self.old.book) self.old.limit (taps_held (book_of self.old.book) self.old.limit self.old.left) (calls_in 0 (lines_in text.now)))) }
         ensures answers { (cs : List calls.Call) → Came (book_of self.old.book) self.old.limit cs self.old.left self.old.right → IfOk result (λ told. (string_bytes told ≡ answers_text (book_of self.old.book) (answers (book_of self.old.book) self.old.limit (ran self.old.limit [] cs) (calls_in 0 (lines_in text.now)))) × Came (book_of self.old.book) self.old.limit (cs ++ calls_in 0 (lines_in text.now)) self.new.left self.new.right) }
-        ensures untold { (cs : List calls.Call) → Came (book_of self.old.book) self.old.limit cs self.old.left self.old.right → IfErr result (λ _. (n : ℕ) × Came (book_of self.old.book) self.old.limit (cs ++ take n (calls_in 0 (lines_in text.now))) self.new.left self.new.right) }
+        ensures untold { (cs : List calls.Call) → Came (book_of self.old.book) self.old.limit cs self.old.left self.old.right → IfErr result (λ _. (n : ℕ) × (0 < n) × (n ≤ length (lines_in text.now)) × Came (book_of self.old.book) self.old.limit (cs ++ take n (calls_in 0 (lines_in text.now))) self.new.left self.new.right) }
     {
         let book = self.book;
         let mut told = String::new(alloc);

@@ -1,4 +1,4 @@
-use Rattle.std.proofs.Common.{◌≡◌, ◌+◌, [], ◌++◌, append-nil, IfNone, sym, ap, ◌∙◌, subst, arith}
+use Rattle.std.proofs.Common.{◌≡◌, ◌+◌, ◌≤◌, [], ◌++◌, length, append-nil, IfNone, sym, ap, ◌∙◌, subst, arith}
 use Rattle.std.specs.String.{string_bytes}
 use Rattle.taps.specs.Values.{book_of}
 use Rattle.tokens.specs.Tokens.{lines_in}
@@ -6,7 +6,7 @@ use Rattle.session.specs.Session.{taps_held}
 use Rattle.session.proofs.Sent.{came_desk}
 use Rattle.lines.specs.Lines.{calls_in}
 use Rattle.lines.specs.Values.{reply_of}
-use Rattle.lines.proofs.Told.{Done, done_all, done_first, done_more, if_err, told_none, told_of, told_step}
+use Rattle.lines.proofs.Told.{Done, done_all, done_first, done_more, if_err, length_calls, told_none, told_of, told_step}
 use Rattle.lines.proofs.open_desk.OpenDesk.answer_lines.Goals as goal
 
 pub returns-in_err-writeln-clause-untold : goal.returns-in_err-writeln-clause-untold
@@ -20,7 +20,9 @@ returns-in_err-writeln-clause-untold c =
     let n = c.loop-line.number in
     let behind = c.in-Some.behind.now in
     let done = done_more b first.limit first.left first.right all (book_of before.book) before.limit (ap book_of kept.same.0) kept.same.1 n c.loop-line.rest.now c.in-Some.line.now behind before.left before.right now.left now.right (reply_of c.answer_line-reply.result) c.in-Some.ensures.lines c.answer_line-reply.ensures.answers kept.done in
-    λ cs came. if_err c.from_residual.result _ (done_first b first.limit first.left first.right all (n + 1) behind now.left now.right done cs came)
+    let firsts = done_first b first.limit first.left first.right all (n + 1) behind now.left now.right done in
+    let few : n + 1 ≤ length (lines_in c.args.text.now) = omega (arith, firsts.0, length_calls 0 (lines_in c.args.text.now)) in
+    λ cs came. if_err c.from_residual.result _ (n + 1, omega arith, few, firsts.1 cs came)
 
 pub loop-line-preserved : goal.loop-line-preserved
 loop-line-preserved c =
