@@ -1,1 +1,3 @@
-pub mod Limits
+pub mod Options
+pub mod Values
+pub mod Fetched

@@ -1,20 +1,29 @@
 // What a program is asked on its command line: `[--book FILE] [--limit N] [FILE]`, in any order, and `--help`.
 //
-// The programs `desk` and `price` take these alike. What can't be done is an error with a message for people, and a book
-// that is no book is told with its line; what a book's lines mean is promised by the crate `bookfile`. Of the command line
-// only the limit has a contract, the rest is run and compared.
+// The programs `desk` and `price` take these alike. `parse_options` answers what words ask for, or the first that can't be
+// understood; `specs/Options.antt` defines both for every list of words. What can't be done is an error with a message for
+// people, and a book that is no book is told with its line; what a book's lines mean is promised by the crate `bookfile`.
+// Read `request.rt` first.
 #![tactic(auto)]
 
-ghost use Rattle.std.specs.Prelude.{◌≡◌, ◌≤◌, false, IfOk, IfSome};
-ghost use Rattle.options.specs.Limits.{limit_in};
+ghost use Rattle.std.specs.Prelude.{◌≡◌, ◌≤◌, Ok, false, map, IfOk, IfSome, IsOk};
+ghost use Rattle.std.specs.String.{string_bytes};
+ghost use Rattle.options.specs.Options.{asked_in, help};
+ghost use Rattle.options.specs.Fetched.{CanBeAsked, IsAsked, IsSet};
+ghost use Rattle.options.specs.Values.{request_of};
 
-use anyhow::{Context, Result, anyhow, ensure};
+pub mod bad_option;
+mod draft;
+pub mod request;
+#[cfg(test)]
+mod tests;
+
+use anyhow::{Result, anyhow};
 use bookfile::parse_book;
+use request::{Asked, Request, parse_options};
 use std::{env, fs};
 use taps::book::Book;
 use taps::built_in::built_in_book;
-use taps::call::MOST_TAPS;
-use tokens::parse_number;
 
 #[derive(Drop)]
 pub struct Options {
@@ -25,44 +34,14 @@ pub struct Options {
     pub input: Option<String>,
 }
 
-// What the program is asked for; none where it is asked for help. An option that is given twice counts as it is given last.
+// What the program is asked for; none where it is asked for help.
 pub fn read_options(rt: &HostRuntime, takes_limit: bool) -> Result<Option<Options>>
+    ensures asked { IfOk result (λ options. CanBeAsked takes_limit options) }
     ensures limit { IfOk result (λ asked. IfSome asked (λ options. options.limit ≤ 256)) }
     ensures unlimited { takes_limit ≡ false → IfOk result (λ asked. IfSome asked (λ options. options.limit ≡ 256)) }
 {
-    let args = arguments(rt)?;
-    let mut options = Options {
-        book: built_in_book(),
-        limit: MOST_TAPS,
-        input: None,
-    };
-    let mut rest = args.as_slice();
-    while let Some((arg, behind)) = rest.split_first() {
-        rest = behind;
-        match arg.as_str() {
-            "--help" | "-h" => return Ok(None),
-            "--book" => {
-                let (path, behind) = rest.split_first().context("--book wants a file")?;
-                options.book = read_book(rt, path.as_str())?;
-                rest = behind;
-            }
-            "--limit" if takes_limit => {
-                let (limit, behind) = rest
-                    .split_first()
-                    .context("--limit wants a number of taps")?;
-                options.limit = parse_limit(limit.as_str()).context(format_args!(
-                    "--limit takes a number up to 256, and not {limit}"
-                ))?;
-                rest = behind;
-            }
-            path => {
-                ensure!(!path.starts_with('-'), "unknown option {path}");
-                ensure!(options.input.is_none(), "more than one file");
-                options.input = Some(String::from_str(rt.alloc(), path)?);
-            }
-        }
-    }
-    Ok(Some(options))
+    let words = arguments(rt)?;
+    options_of(rt, words.as_slice(), takes_limit)
 }
 
 // All that stands behind the program's name.
@@ -72,15 +51,38 @@ fn arguments(rt: &HostRuntime) -> Result<Vec<String>> {
     Ok(args.collect(rt.alloc())?)
 }
 
+// What words ask for, with the book that they name; none where they ask for help.
+pub fn options_of(rt: &HostRuntime, words: &[String], takes_limit: bool) -> Result<Option<Options>>
+    ensures asked { IfOk result (λ options. IsAsked options (asked_in takes_limit (map string_bytes words.now))) }
+    ensures help { asked_in takes_limit (map string_bytes words.now) ≡ Ok help → IsOk result }
+{
+    let asked = parse_options(words, takes_limit).map_err(|bad| anyhow!("{bad}"))?;
+    match asked {
+        Asked::Help => Ok(None),
+        Asked::Run(request) => Ok(Some(fetch(rt, request)?)),
+    }
+}
+
+// The book is read; the input is left to the program.
+fn fetch(rt: &HostRuntime, request: Request<'_>) -> Result<Options>
+    ensures set { IfOk result (λ options. IsSet options (request_of request.entry)) }
+{
+    let book = match request.book {
+        Some(path) => read_book(rt, path)?,
+        None => built_in_book(),
+    };
+    let input = match request.input {
+        Some(path) => Some(String::from_str(rt.alloc(), path)?),
+        None => None,
+    };
+    Ok(Options {
+        book,
+        limit: request.limit,
+        input,
+    })
+}
+
 fn read_book(rt: &HostRuntime, path: &str) -> Result<Book> {
     let text = fs::read(rt, path).map_err(|error| anyhow!("{path}: {error}"))?;
     parse_book(text.as_slice()).map_err(|fault| anyhow!("{path}: {fault}"))
-}
-
-// How many taps are taken: a number of at most as many as a desk may hold.
-pub fn parse_limit(text: &str) -> Option<usize>
-    ensures { result ≡ limit_in text.now }
-{
-    let limit = parse_number(text.as_bytes())? as usize;
-    (limit <= MOST_TAPS).then_some(limit)
 }
