@@ -51,6 +51,20 @@ impl Desk {
         told && self.left == before.left && self.right == before.right
     }
 
+    // Whether a string of up to three bytes is answered as it has to be, with taps at 10 and 250 ms: each that is no call
+    // is refused at the first byte that does not fit, or that is missing, and changes no word.
+    fn answers(mut self, request: &[u8]) -> bool {
+        match request {
+            [1] => self.says(request, &number(1, 0)),
+            [2] => self.says(request, &number(208, 2)),
+            [3] => self.says(request, &[2, 1, 0, 1, 1]),
+            [0] | [1..=3, ..] => self.refuses(request, 1, 1),
+            [0, _] => self.refuses(request, 1, 2),
+            [0, ..] => self.refuses(request, 1, 3),
+            _ => self.refuses(request, 1, 0),
+        }
+    }
+
     // Whether a call is not answered, and nothing changes.
     fn lets_be(&mut self, room: usize, why: Unanswered) -> bool {
         let before = *self;
@@ -131,6 +145,27 @@ fn refusals_in_the_order_of_the_list(rt: HostRuntime) {
     assert!(rt; desk.refuses(&[0, 20, 0, 0, 0], 4, 0));
     assert!(rt; desk.refuses(&[0, 0, 0, 0, 1], 2, 0));
     assert!(rt; desk.refuses(&[0, 0, 0, 0, 1, 0], 1, 5));
+}
+
+// As calls there are 16,843,009 such strings: some seconds when built, and longer than `rt try` waits, which builds nothing.
+#[test]
+fn every_string_of_up_to_three_bytes(rt: HostRuntime) {
+    let mut desk = Desk::new();
+    assert!(rt; desk.says(&[0, 10, 0, 0, 0], &number(0, 0)));
+    assert!(rt; desk.says(&[0, 250, 0, 0, 0], &number(1, 0)));
+    assert!(rt; desk.answers(&[]));
+    for first in 0..=255 {
+        assert!(rt; desk.answers(&[first]), "at {first}");
+        for second in 0..=255 {
+            assert!(rt; desk.answers(&[first, second]), "at {first} {second}");
+            for third in 0..=255 {
+                assert!(rt;
+                    desk.answers(&[first, second, third]),
+                    "at {first} {second} {third}"
+                );
+            }
+        }
+    }
 }
 
 // Whether the words are no desk's with another number in one place.
