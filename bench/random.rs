@@ -6,12 +6,15 @@ use std::env;
 use std::error::Error;
 use std::fs;
 use std::iter;
+use std::ops::RangeInclusive;
 use std::process::ExitCode;
 
 const USAGE: &str = "usage: random SEED KINDS TEMPI LIMIT CALLS BOOK_FILE CALLS_FILE PRICE_FILE";
 
 const MOST_KINDS: u64 = 32;
 const MOST_TEMPI: u64 = 64;
+// Kinds and tempi of a small book.
+const FEW: RangeInclusive<u64> = 1..=3;
 const MOST_TAPS: usize = 256;
 const TIME_END: u64 = 1 << 24;
 // From here on there may not be room for 256 taps any more.
@@ -62,6 +65,9 @@ impl Book {
     // Where weights, changes and tempi are few and round, many readings cost as much as others, and which one is the
     // first matters; so most books are such.
     fn random(random: &mut Random, kinds: u64, tempi: u64) -> Book {
+        if FEW.contains(&kinds) && FEW.contains(&tempi) && random.percent(75) {
+            return Book::of_ties(random, kinds, tempi);
+        }
         let kinds = count(random, kinds, MOST_KINDS);
         let tempi = count(random, tempi, MOST_TEMPI);
         if random.percent(75) {
@@ -85,6 +91,20 @@ impl Book {
                 tempi: some_tempi(random, tempi, 1),
                 change: random.of_bits(16),
             }
+        }
+    }
+
+    // Few notes, of which many last as long as others, and weigh as much, or 12 more, as much as being off by a ms.
+    fn of_ties(random: &mut Random, kinds: u64, tempi: u64) -> Book {
+        let light = random.pick(&[0, 1, 12, 600]);
+        let weights = [light, light, light + 12];
+        let tempo = random.pick(&[100, 125, 150, 200]);
+        Book {
+            kinds: (0..kinds)
+                .map(|_| (random.pick(&[3, 4, 6, 8, 12, 24]), random.pick(&weights)))
+                .collect(),
+            tempi: distinct(tempi, || tempo * random.pick(&[1, 2, 3, 4, 6, 8])),
+            change: random.pick(&[0, 0, 0, 1, 6, 12]),
         }
     }
 
@@ -220,11 +240,16 @@ fn round_tempi(random: &mut Random, count: u64) -> Vec<u64> {
 
 // So many of the tempi that so many ms divide.
 fn some_tempi(random: &mut Random, count: u64, step: u64) -> Vec<u64> {
-    let mut tempi = BTreeSet::new();
-    while (tempi.len() as u64) < count {
-        tempi.insert(random.between(100 / step, 4000 / step) * step);
+    distinct(count, || random.between(100 / step, 4000 / step) * step)
+}
+
+// So many numbers, as they come, in their order.
+fn distinct(count: u64, mut next: impl FnMut() -> u64) -> Vec<u64> {
+    let mut numbers = BTreeSet::new();
+    while (numbers.len() as u64) < count {
+        numbers.insert(next());
     }
-    tempi.into_iter().collect()
+    numbers.into_iter().collect()
 }
 
 // Taps, takes back and asks, and knows which taps a desk holds.
@@ -263,6 +288,8 @@ impl Player {
             self.goal = held.saturating_sub(self.random.between(1, 20) as usize);
         } else if held == self.goal || refused {
             let most = self.random.pick(&[1, 10, 30, 300, 300, 300]);
+            // Not much above a small limit, so that such a desk is not always full.
+            let most = most.min(2 * self.limit as u64 + 1);
             self.goal = self.random.below(most) as usize;
         }
     }
