@@ -24,7 +24,8 @@ pub enum Reason {
     Unfinished,
 }
 
-// The number of the line, from 0, of all lines of the text; where the text ends too early, how many lines it has.
+// The first line of a text that does not fit, by its number from 0, of all its lines; where the text ends too early, how
+// many lines it has.
 #[derive(Clone, Copy, PartialEq, Eq, Debug)]
 pub struct Fault {
     pub line: usize,

@@ -7,7 +7,7 @@ use Rattle.taps.specs.Readings.{pick, Kind, Book}
 use Rattle.taps.specs.Promise.{good_kinds, good_tempi}
 use Rattle.octets.specs.Bytes.{two, four, chunks, number}
 
--- Books: how many kinds there are, and for each its ticks and its weight in four bytes; how many tempi there are, each in two bytes; the change in four bytes. Nothing follows.
+-- a kind: its ticks, and its weight in four bytes
 abbrev pub kind_bytes : Kind → List ℕ
 kind_bytes k = k.ticks ∷ four k.weight
 
@@ -18,6 +18,7 @@ kind_in five = record { ticks = slice_index five 0; weight = number (drop 1 five
 abbrev pub good_kind : Kind → Bool
 good_kind k = (nat_le 1 k.ticks && nat_le k.ticks 96) && nat_lt k.weight 16777216
 
+-- how many kinds there are, and each; how many tempi there are, each in two bytes; the change in four bytes. Nothing follows
 abbrev pub book_bytes : Book → List ℕ
 book_bytes b = length b.kinds ∷ (flat_map kind_bytes b.kinds ++ (length b.tempi ∷ (flat_map two b.tempi ++ four b.change)))
 

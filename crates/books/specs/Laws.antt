@@ -1,6 +1,6 @@
 -- What is promised of the format of books. Assumes nothing: these are statements, each named by a function's contract.
 --
--- return: what was written reads back as the same. only: what is read as a book is just what that is written as. apart: no two that differ are written alike.
+-- BooksReturn: what was written reads back as the same. BooksOnly: what is read as a book is just what that is written as. BooksApart: no two that differ are written alike.
 use Rattle.std.specs.Prelude.{◌≡◌, ℕ, List, Some}
 use Rattle.taps.specs.Readings.{Book}
 use Rattle.taps.specs.Promise.{GoodBook}

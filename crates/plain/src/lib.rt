@@ -32,9 +32,9 @@ use taps::listed::Listed;
 use taps::read::{MOST_GAPS, Read, Reading, TOO_MUCH};
 use taps::tempi::MOST_TEMPI;
 
-// Words for what is kept of as many gaps as a reading may have, in any book, and for the rows from the last gap on.
+// Words for what is kept of as many gaps as a reading may have, in any book.
 pub const MOST_KEPT_WORDS: usize = MOST_GAPS * (2 * MOST_TEMPI + 1) + MOST_TEMPI + 1;
-
+// Words for the rows from the last gap on, of as many gaps.
 pub const MOST_ROW_WORDS: usize = (MOST_GAPS + 1) * (MOST_TEMPI + 1);
 
 #[derive(Clone, Copy)]

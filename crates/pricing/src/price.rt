@@ -15,7 +15,7 @@ use taps::book::Book;
 use text::reading::{Unread, parse_reading};
 use tokens::{split_line, split_token};
 
-// Why there is none.
+// Why lines have no price.
 #[derive(Clone, Copy, PartialEq, Eq, Debug)]
 pub enum Unpriced {
     // There is no line.

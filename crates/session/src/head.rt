@@ -13,9 +13,9 @@ use octets::pieces::{Format, decode_all, encode_all};
 
 // A word has eight bytes.
 const WORD_SIZE: usize = 8;
-// Words for the bytes of any book, and the bytes of these words.
+// Words for the bytes of any book.
 const BOOK_WORDS: usize = (MOST_BYTES + WORD_SIZE - 1) / WORD_SIZE;
-
+// The bytes of these words.
 const BOOK_SIZE: usize = WORD_SIZE * BOOK_WORDS;
 // The limit and the book's size stand before the book.
 pub const HEAD_WORDS: usize = 2 + BOOK_WORDS;
@@ -31,7 +31,7 @@ pub fn read_head(words: &[u64]) -> Option<Setup>
     Setup::new(decode_book(book).ok()?, head[0] as usize)
 }
 
-// Writes them.
+// Writes the words in front, for a setup.
 pub fn write_head(setup: &Setup, words: &mut [u64])
     requires { 39 ≤ length words.old }
     ensures { words.new ≡ written (head_of (book_of setup.now.book) setup.now.limit) words.old }

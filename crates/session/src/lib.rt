@@ -37,7 +37,7 @@ use setup::Setup;
 use taps::call::MOST_TAPS;
 use taps::refusal::Refusal;
 
-// Words that each slice has for any desk.
+// As many words as any desk asks for in each slice.
 pub const MOST_WORDS: usize = HEAD_WORDS + onsets::MOST_WORDS + MOST_KEPT_WORDS;
 
 // Why a call is not answered.

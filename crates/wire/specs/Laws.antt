@@ -1,6 +1,8 @@
 -- What is promised of the formats of calls and answers. Assumes nothing: these are statements, each named by a function's contract.
 --
--- return: what was written reads back as the same. only: what is read as something is just what that is written as. apart: no two that differ are written alike.
+-- CallFits, AnswerFits: what can be written.
+-- CallsReturn, AnswersReturn: what was written reads back as the same. CallsOnly, AnswersOnly: what is read as something is just what that is written as.
+-- CallsApart, AnswersApart: no two that differ are written alike.
 use Rattle.std.specs.Prelude.{◌≡◌, ℕ, ◌^◌, ◌<◌, ◌≤◌, true, List, length, Some, Ok}
 use Rattle.taps.specs.Calls.{Answer, refused, number, reads}
 use Rattle.taps.specs.Values.{listed}

@@ -14,7 +14,7 @@ use Rattle.taps.specs.declared.refusal.Refusal.TheVariants.{Garbled}
 use Rattle.octets.specs.Bytes as bytes
 use Rattle.octets.specs.Bytes.{two, four, eight, chunks}
 
--- Calls: a byte, 0 to 3, and for a tap its time in four bytes. Nothing follows.
+-- a byte, 0 to 3, and for a tap its time in four bytes. Nothing follows
 abbrev pub call_bytes : Call → List ℕ
 call_bytes (call.Tap t) = 0 ∷ four t
 call_bytes call.Back = 1 ∷ []
@@ -34,13 +34,14 @@ call_in [] = Err (Garbled 0)
 call_in (first ∷ rest) =
     pick (first == 0) (tap_in rest) (pick (first == 1) (alone call.Back rest) (pick (first == 2) (alone call.Cost rest) (pick (first == 3) (alone call.Read rest) (Err (Garbled 0)))))
 
--- Answers: 0 and a refusal's number and place; 1 and a number; 2, how many gaps there are, and for each its kind and its tempo.
+-- how a gap is read: its kind and its tempo, a byte each
 abbrev pub read_bytes : Read → List ℕ
 read_bytes r = r.kind ∷ r.tempo ∷ []
 
 abbrev pub read_in : List ℕ → Read
 read_in pair = record { kind = slice_index pair 0; tempo = slice_index pair 1 }
 
+-- 0 and a refusal's number and place; 1 and a number; 2, how many gaps there are, and how each is read. Nothing follows
 abbrev pub answer_bytes : Answer → List ℕ
 answer_bytes (refused n p) = 0 ∷ (four n ++ four p)
 answer_bytes (number n) = 1 ∷ eight n
