@@ -56,10 +56,6 @@ module _ (C : ℕ → ℕ → Type 0) (step fold : ℕ → ℕ → ℕ) (none : 
       (from_then (C n) (Below C n) (Below C (suc n)) a (step n a) (fold n (step n a)) (each n a) (from_fold n (step n a))
       (λ v h. elim (below_either C n v h) [ inl x ↦ inr x | inr x ↦ inl x ]) (below_last C n) (below_less C n))
 
--- one candidate more
-pub from_next : (C : ℕ → ℕ → Type 0) (n a m o : ℕ) → LeastFrom (Below C n) a m → LeastFrom (C n) m o → LeastFrom (Below C (suc n)) a o
-from_next C n a m o p q = from_then (Below C n) (C n) (Below C (suc n)) a m o p q (below_either C n) (below_less C n) (below_last C n)
-
 -- v is no lower than a, or than some candidate of P
 abbrev pub Near : (ℕ → Type 0) → ℕ → ℕ → Type 0
 Near P a v = (a ≤ v) ⊎ ((u : ℕ) × P u × (u ≤ v))

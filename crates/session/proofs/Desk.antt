@@ -4,7 +4,7 @@ use Rattle.std.proofs.lemmas.Bool.Decides.{nat_tests}
 use Rattle.std.proofs.lemmas.List.{take_at, drop_at, take-append-drop, length-append}
 use Rattle.taps.specs.Readings.{Book}
 use Rattle.taps.specs.Calls as calls
-use Rattle.taps.specs.Calls.{turned, changed, after, answers, ran}
+use Rattle.taps.specs.Calls.{turned, after, answers, ran}
 use Rattle.taps.specs.Promise.{GoodBook, Memory, Desk, told_by, left_by, Right, RefusalKeeps}
 use Rattle.octets.specs.Bytes.{written}
 use Rattle.octets.proofs.Front.{starts_same}

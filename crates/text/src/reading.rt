@@ -1,11 +1,11 @@
 // Readings as lines: notes as in `12@500 6@500`, or `none` where there is no gap.
 ghost use Rattle.std.specs.Prelude.{◌≡◌, ◌<◌, true, [], Some, IfOk, IfSome, ◌==◌};
 ghost use Rattle.std.specs.Option.{option_map};
-ghost use Rattle.std.specs.List.{position, position_or_len};
+ghost use Rattle.std.specs.List.{position};
 ghost use Rattle.std.specs.Result.{result_map_both};
 ghost use Rattle.taps.specs.Readings.{in_book};
 ghost use Rattle.taps.specs.Values.{book_of, read_of, reading_of, tempi_of};
-ghost use Rattle.tokens.specs.Tokens.{before, behind, tokens_in};
+ghost use Rattle.tokens.specs.Tokens.{tokens_in};
 ghost use Rattle.text.specs.Notes as notes;
 ghost use Rattle.text.specs.Notes.{note_in, notes_in, read_as, read_in, reading_in, unread_text};
 
