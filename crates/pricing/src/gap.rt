@@ -1,5 +1,5 @@
 // What one gap costs, read as a kind at a tempo.
-ghost use Rattle.std.specs.Prelude.{◌≡◌, ◌-◌, ◌*◌, ◌<◌, ◌==◌, Some};
+ghost use Rattle.std.specs.Prelude.{◌≡◌, ◌-◌, ◌*◌, ◌<◌, ◌==◌, Some, pos, ◌-ℤ◌};
 ghost use Rattle.taps.specs.Readings.{apart, costs, kind_at, pick, tempo_at};
 ghost use Rattle.taps.specs.Values.{book_of, read_of};
 ghost use Rattle.pricing.specs.Pricing.{before_of, gap_text};
@@ -15,10 +15,17 @@ pub fn gap_cost(book: &Book, before: Option<u8>, gap: u32, read: Read) -> u64
     ensures value { result ≡ costs (book_of book.now) (before_of before) gap (read_of read) }
     ensures small { result < 68719476736 }
 {
-    let tempo = u64::from(tempo_in(book, read.tempo));
-    let (ticks, weight) = kind_in(book, read.kind);
-    let off = (12 * u64::from(gap)).abs_diff(u64::from(ticks) * tempo);
-    off + u64::from(weight) + change_cost(book, before, read.tempo)
+    let (ticks, weight) = kind_at(book, read.kind);
+    let tempo = tempo_at(book, read.tempo);
+    let off = off(gap, ticks, tempo);
+    off.unsigned_abs() + u64::from(weight) + change_cost(book, before, read.tempo)
+}
+
+// How much longer twelve gaps are than so many ticks at the tempo: below 0 where they are shorter.
+fn off(gap: u32, ticks: u8, tempo: u16) -> i64
+    ensures { result ≡ pos (12 * gap) -ℤ pos (ticks * tempo) }
+{
+    12 * i64::from(gap) - i64::from(ticks) * i64::from(tempo)
 }
 
 // What the change of tempo costs; nothing where there is no gap before.
@@ -29,12 +36,12 @@ fn change_cost(book: &Book, before: Option<u8>, tempo: u8) -> u64
     let Some(before) = before else {
         return 0;
     };
-    let apart = tempo_in(book, before).abs_diff(tempo_in(book, tempo));
+    let apart = tempo_at(book, before).abs_diff(tempo_at(book, tempo));
     u64::from(book.change) * u64::from(apart)
 }
 
 // The ticks and the weight of the kind at a place, or 0 outside of the book.
-fn kind_in(book: &Book, place: u8) -> (u8, u32)
+fn kind_at(book: &Book, place: u8) -> (u8, u32)
     ensures ticks { result.0 ≡ (kind_at (book_of book.now) place).ticks }
     ensures weight { result.1 ≡ (kind_at (book_of book.now) place).weight }
 {
@@ -44,7 +51,7 @@ fn kind_in(book: &Book, place: u8) -> (u8, u32)
 }
 
 // The tempo at a place, or 0 outside of the book.
-fn tempo_in(book: &Book, place: u8) -> u16
+fn tempo_at(book: &Book, place: u8) -> u16
     ensures { result ≡ tempo_at (book_of book.now) place }
 {
     let tempi = book.tempi.list.as_slice();
