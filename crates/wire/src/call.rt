@@ -64,8 +64,8 @@ fn decode_tap(time: &[u8]) -> Result<Call, Refusal>
 fn decode_alone(call: Call, rest: &[u8]) -> Result<Call, Refusal>
     ensures { result ≡ alone call rest.now }
 {
-    if !rest.is_empty() {
+    let [] = rest else {
         return Err(Refusal::Garbled(1));
-    }
+    };
     Ok(call)
 }
