@@ -3,11 +3,15 @@ ghost use Rattle.std.specs.Prelude.{◌≡◌};
 ghost use Rattle.taps.specs.Values.{book_of};
 ghost use Rattle.taps.specs.Worked.{worked};
 
-use crate::{Plain, keep_gap, keep_start, kept_cost, kept_words, row_words};
+use crate::{
+    MOST_KEPT_WORDS, MOST_ROW_WORDS, Plain, keep_gap, keep_start, kept_cost, kept_words, row_words,
+};
 use bitset::BitSet;
 use model::{Step, keep_step, write_suffix_rows};
+use std::test::Fail;
 use taps::built_in::built_in_book;
-use taps::read::TOO_MUCH;
+use taps::read::{MOST_GAPS, TOO_MUCH};
+use taps::tempi::{MOST_TEMPI, Tempi};
 
 // Words for what is kept of five gaps at four tempi, and for their rows.
 const KEPT: usize = 50;
@@ -82,6 +86,23 @@ fn words_too_few_stay_as_they_are(rt: HostRuntime) {
     assert!(rt; kept == [7; 13]);
     assert!(rt; (kept_words(book, 5), row_words(book, 5)) == (KEPT, ROWS));
     assert!(rt; (kept_words(book, 300), row_words(book, 300)) == (2300, 1280));
+}
+
+// The most words are what the most gaps take in a book with the most tempi, and none more.
+#[test]
+fn most_words(rt: HostRuntime) -> Result<(), Fail> {
+    let mut all = [0; MOST_TEMPI];
+    for t in 0..MOST_TEMPI {
+        all[t] = 100 + t as u16;
+    }
+    let Some(tempi) = Tempi::new(all, MOST_TEMPI) else {
+        return Err(Fail::new("no tempi"));
+    };
+    let mut book = built_in_book();
+    book.tempi = tempi;
+    assert!(rt; kept_words(&book, MOST_GAPS) == MOST_KEPT_WORDS);
+    assert!(rt; row_words(&book, MOST_GAPS) == MOST_ROW_WORDS);
+    Ok(())
 }
 
 // A gap that may be read as any kind, or as some.

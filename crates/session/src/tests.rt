@@ -1,5 +1,5 @@
 // Opening with just enough memory and with less, calls over it, and each refusal, alone and where two could apply.
-use crate::{Unanswered, call, open, words_asked};
+use crate::{MOST_WORDS, Unanswered, call, open, words_asked};
 use std::test::Fail;
 use taps::refusal::Refusal;
 
@@ -85,6 +85,19 @@ fn memory_that_is_asked_for(rt: HostRuntime) {
     assert!(rt; words_asked(&BOOK, 256) == Ok(2596));
     assert!(rt; words_asked(&BOOK, 257) == Err(Refusal::LimitTooLarge));
     assert!(rt; words_asked(&BOOK[..43], 257) == Err(Refusal::NoBook));
+}
+
+// A book with the most tempi, from 100 ms on, and with the largest limit; how many kinds it has does not count.
+#[test]
+fn most_memory(rt: HostRuntime) {
+    let mut book = [0; 139];
+    book[0] = 1;
+    book[1] = 12;
+    book[6] = 64;
+    for t in 0..64 {
+        book[7 + 2 * t] = 100 + t as u8;
+    }
+    assert!(rt; words_asked(&book, 256) == Ok(MOST_WORDS));
 }
 
 // Whether a desk is refused so, and no word changes.
