@@ -6,9 +6,9 @@ use Rattle.std.proofs.lemmas.Bool.Decides.{nat_tests}
 use Rattle.std.proofs.lemmas.List.{length-append}
 use Rattle.std.proofs.lemmas.Result.{IfOk-at_ok}
 use Rattle.taps.specs.Readings.{Kind, Book}
-use Rattle.taps.specs.Promise.{GoodBook, good_kinds, good_tempi}
+use Rattle.taps.specs.Promise.{GoodBook, good_kind, good_kinds, good_tempi}
 use Rattle.tokens.specs.Tokens.{lines_in, tokens_in}
-use Rattle.bookfile.specs.Books.{Draft, add_change, add_kind, add_tempi, add_tokens, change_in, finish, good_kind, is_comment, kind_in, listing, next, numbers_in, read_lines, take_line, take_tokens, timed, where_good, whole}
+use Rattle.bookfile.specs.Books.{Draft, add_change, add_kind, add_tempi, add_tokens, change_in, finish, is_comment, kind_in, listing, next, numbers_in, read_lines, take_line, take_tokens, timed, where_good, whole}
 use Rattle.bookfile.specs.Laws.{BooksGood}
 use Rattle.bookfile.specs.declared.fault.Fault.{Fault}
 use Rattle.bookfile.specs.declared.fault.Reason.{Reason}
@@ -33,7 +33,7 @@ kind_good : (ks : List Kind) (k : Option Kind) → GoodDraft (listing ks) → If
 kind_good ks None good = tt
 kind_good ks (Some k) good =
     either (nat_lt (length ks) 32) _ _
-    (λ few. either (good_kind k) _ _ (λ is. (grind (arith, nat_tests, few, length-append ks (k ∷ [])), kinds_more ks k good.1 is)) tt) tt
+    (λ few. either (good_kind k) _ _ (λ is. let more : GoodDraft (listing (ks ++ k ∷ [])) = (grind (arith, nat_tests, few, length-append ks (k ∷ [])), kinds_more ks k good.1 is) in more) tt) tt
 
 tempi_good : (ks : List Kind) (ts : Option (List ℕ)) → GoodDraft (listing ks) → IfOk (add_tempi ks (where_good ts)) GoodDraft
 tempi_good [] ts good = tt

@@ -8,12 +8,12 @@ use Rattle.std.proofs.lemmas.Bool.Decides.{nat_tests}
 use Rattle.std.proofs.lemmas.Grind.{common_steps}
 use Rattle.std.proofs.lemmas.List.{length-append}
 use Rattle.taps.specs.Readings.{Kind}
-use Rattle.taps.specs.Promise.{good_kinds, good_tempi}
+use Rattle.taps.specs.Promise.{good_kind, good_kinds, good_tempi}
 use Rattle.tokens.specs.Tokens.{is_line_end, lines_in, number_in, tokens_in}
 use Rattle.tokens.proofs.Joined.{Whole, free, line_joined, one_token, token_joined, whole_joined}
 use Rattle.tokens.proofs.Numbers.{number_reads}
 use Rattle.tokens.proofs.Printed.{Small, number_in_line, number_some, number_whole, numbers_in_line, text_number, words_joined}
-use Rattle.bookfile.specs.Books.{add_change, add_kind, add_tempi, add_tokens, good_kind, in_front, kind_in, kind_of_numbers, listing, next, numbers_in, read_lines, take_line, ticks_in, timed, where_good, whole}
+use Rattle.bookfile.specs.Books.{add_change, add_kind, add_tempi, add_tokens, in_front, kind_in, kind_of_numbers, listing, next, numbers_in, read_lines, take_line, ticks_in, timed, where_good, whole}
 use Rattle.bookfile.specs.Laws.{BooksReturn}
 use Rattle.bookfile.specs.Written.{change_text, kind_text, line_of, tempi_text}
 

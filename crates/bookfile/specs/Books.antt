@@ -8,7 +8,7 @@ use Rattle.std.specs.Prelude.{ℕ, suc, ◌-◌, Bool, false, ◌&&◌, ◌||◌
 use Rattle.std.specs.Char.{is_ascii_alphabetic}
 use Rattle.std.specs.List.{list_all}
 use Rattle.taps.specs.Readings.{Kind, Book}
-use Rattle.taps.specs.Promise.{good_tempi}
+use Rattle.taps.specs.Promise.{good_kind, good_tempi}
 use Rattle.tokens.specs.Tokens.{lines_in, number_in, tokens_in}
 use Rattle.bookfile.specs.declared.fault.Fault.{Fault}
 use Rattle.bookfile.specs.declared.fault.Reason.{Reason}
@@ -36,9 +36,6 @@ kind_of_numbers (Some ticks) (Some weight) = Some (record { ticks = ticks; weigh
 abbrev pub kind_in : List (List ℕ) → Option Kind
 kind_in (name ∷ (ticks ∷ (word ∷ (weight ∷ [])))) = if is_name name && bytes_eq word (codes "weight") then kind_of_numbers (ticks_in ticks) (number_in weight) else None
 kind_in _ = None
-
-abbrev pub good_kind : Kind → Bool
-good_kind k = (nat_le 1 k.ticks && nat_le k.ticks 96) && nat_lt k.weight 16777216
 
 abbrev pub add_kind : List Kind → Option Kind → Result Draft Reason
 add_kind ks None = Err NoKind

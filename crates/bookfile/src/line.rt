@@ -1,9 +1,10 @@
 // What the lines of a book tell: a kind, the tempi, the change.
 ghost use Rattle.std.specs.Prelude.{◌≡◌, Some, None, if◌then◌else◌};
 ghost use Rattle.std.specs.Option.{option_map};
+ghost use Rattle.taps.specs.Promise.{good_kind};
 ghost use Rattle.taps.specs.Values.{kind_of, tempi_of};
 ghost use Rattle.tokens.specs.Tokens.{tokens_in};
-ghost use Rattle.bookfile.specs.Books.{change_in, good_kind, is_name, kind_in, tempi_in, ticks_in};
+ghost use Rattle.bookfile.specs.Books.{change_in, is_name, kind_in, tempi_in, ticks_in};
 ghost use Rattle.bookfile.specs.Values.{numbers_of};
 
 use taps::kind::Kind;

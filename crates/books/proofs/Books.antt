@@ -5,10 +5,9 @@ use Rattle.std.specs.List.{between, list_all}
 use Rattle.std.specs.Simd.{first_chunks}
 use Rattle.std.proofs.lemmas.List.{length-take-le, length-drop}
 use Rattle.taps.specs.Readings.{Kind}
-use Rattle.taps.specs.Promise.{good_kinds}
+use Rattle.taps.specs.Promise.{good_kind, good_kinds}
 use Rattle.octets.specs.Bytes.{chunks}
 use Rattle.octets.proofs.Cut.{list_all_is, map_pieces, chunks_front}
-use Rattle.books.specs.Books.{good_kind}
 
 -- what is asked of each kind is what `good_kinds` asks of them all; of a tempo by itself nothing is asked
 pub each_kind : (ks : List Kind) → list_all good_kind ks ≡ good_kinds ks

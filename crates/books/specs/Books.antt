@@ -14,10 +14,6 @@ kind_bytes k = k.ticks ∷ four k.weight
 abbrev pub kind_in : List ℕ → Kind
 kind_in five = record { ticks = slice_index five 0; weight = number (drop 1 five) }
 
--- what `good_kinds` asks of each
-abbrev pub good_kind : Kind → Bool
-good_kind k = (nat_le 1 k.ticks && nat_le k.ticks 96) && nat_lt k.weight 16777216
-
 -- how many kinds there are, and each; how many tempi there are, each in two bytes; the change in four bytes. Nothing follows
 abbrev pub book_bytes : Book → List ℕ
 book_bytes b = length b.kinds ∷ (flat_map kind_bytes b.kinds ++ (length b.tempi ∷ (flat_map two b.tempi ++ four b.change)))

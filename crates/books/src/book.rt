@@ -4,10 +4,11 @@ ghost use Rattle.std.specs.Option.{option_map};
 ghost use Rattle.std.specs.Result.{result_ok};
 ghost use Rattle.taps.specs.Readings as readings;
 ghost use Rattle.taps.specs.Readings.{pick};
+ghost use Rattle.taps.specs.Promise.{good_kind};
 ghost use Rattle.taps.specs.Values.{book_of, kind_of, kinds_of, tempi_of};
 ghost use Rattle.taps.specs.declared.refusal.Refusal.TheVariants.{NoBook};
 ghost use Rattle.octets.specs.Bytes.{number, room, two, written};
-ghost use Rattle.books.specs.Books.{book_bytes, book_in, good_kind, kind_bytes, kind_in, kinds_good, tempi_good};
+ghost use Rattle.books.specs.Books.{book_bytes, book_in, kind_bytes, kind_in, kinds_good, tempi_good};
 
 use octets::number::Number;
 use octets::pieces::{Format, decode_all, encode_all};

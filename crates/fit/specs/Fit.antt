@@ -4,7 +4,7 @@
 -- fit: what a gap costs as a kind at a tempo, by their places in the book, but for the change of tempo: what it costs as the first gap.
 -- fits: a row with the least such cost at each tempo. first_meeting: the first read, by kinds and then by tempi, with which the gap and what follows cost just so much.
 -- change_cost: what the change of tempo costs. Wanted: what the gap is to cost by itself, so that a cost is met.
-use Rattle.std.specs.Prelude.{◌≡◌, ℕ, suc, ◌+◌, ◌-◌, ◌*◌, ◌<◌, Bool, List, map, length, filter, Some, None, Option, ◌==◌, slice_index}
+use Rattle.std.specs.Prelude.{◌≡◌, ℕ, ◌+◌, ◌-◌, ◌*◌, ◌<◌, Bool, List, map, length, filter, Some, Option, ◌==◌, slice_index}
 use Rattle.std.specs.List.{range_with_len}
 use Rattle.bitset.specs.Members.{member}
 use Rattle.least.specs.Minima.{capped, over, first}
@@ -32,11 +32,6 @@ meets b before gap rest cost r = costs b before gap r + slice_index rest r.tempo
 
 abbrev pub first_meeting : Book → ℕ → ℕ → ℕ → List ℕ → ℕ → Option Read
 first_meeting b set before gap rest cost = first (meets b before gap rest cost) (reads_of b (allowed b set))
-
--- the tempo before, by its place, as the definitions of readings have it
-abbrev pub before_of : Option ℕ → ℕ
-before_of None = 0
-before_of (Some s) = suc s
 
 -- what the change costs from the tempo before, if there is one, to another
 abbrev pub change_cost : Book → ℕ → ℕ → ℕ

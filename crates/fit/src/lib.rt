@@ -9,9 +9,9 @@
 
 ghost use Rattle.std.specs.Prelude.{◌≡◌, ◌+◌, ◌*◌, ℕ, ◌<◌, min, length, pos, ◌-ℤ◌, IfSome, ◌==◌, slice_index};
 ghost use Rattle.std.specs.Option.{option_map};
-ghost use Rattle.taps.specs.Readings.{apart, pick, too_much};
+ghost use Rattle.taps.specs.Readings.{apart, before_of, pick, too_much};
 ghost use Rattle.taps.specs.Values.{book_of, read_of, tempi_of};
-ghost use Rattle.fit.specs.Fit.{Wanted, before_of, change_cost, first_meeting, fits};
+ghost use Rattle.fit.specs.Fit.{Wanted, change_cost, first_meeting, fits};
 ghost use Rattle.fit.specs.Laws.{Earliest, Lowest, Takes};
 
 use bitset::BitSet;

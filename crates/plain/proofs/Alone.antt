@@ -6,9 +6,9 @@ use Rattle.std.proofs.lemmas.List.{take_rest}
 use Rattle.least.specs.Minima.{capped, over, Among}
 use Rattle.least.proofs.Capped.{capped_some, capped_within}
 use Rattle.least.proofs.Minimal.{no_more_some, over_found, over_under}
-use Rattle.taps.specs.Readings.{pick, Book, apart, tempo_at, costs, too_much}
+use Rattle.taps.specs.Readings.{pick, Book, apart, tempo_at, before_of, costs, too_much}
 use Rattle.statements.specs.Plain.{read}
-use Rattle.fit.specs.Fit.{before_of, fit, least_fit, fits}
+use Rattle.fit.specs.Fit.{fit, least_fit, fits}
 use Rattle.model.specs.declared.Step.{Step}
 use Rattle.model.proofs.Numbers.{row_at}
 use Rattle.plain.specs.Restricted.{kinds_at}

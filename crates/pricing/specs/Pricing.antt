@@ -2,14 +2,9 @@
 --
 -- before: the tempo of the gap before, as one more than its place; 0 where there is no gap before. gs: the gaps; rs: how they are read.
 -- gap_text: a gap's line, without its end. price_text: a line for each gap, and what all cost.
-use Rattle.std.specs.Prelude.{ℕ, suc, List, [], ◌∷◌, ◌++◌, Some, None, Option, codes, decimal}
+use Rattle.std.specs.Prelude.{ℕ, suc, List, [], ◌∷◌, ◌++◌, codes, decimal}
 use Rattle.taps.specs.Readings.{Book, Read, costs, all_cost}
 use Rattle.text.specs.Lines.{note_text}
-
--- the tempo before by its place, as the definitions of readings have it
-abbrev pub before_of : Option ℕ → ℕ
-before_of None = 0
-before_of (Some t) = suc t
 
 -- a note and what its gap costs, as in `12@500 0`
 abbrev pub gap_text : Book → ℕ → ℕ → Read → List ℕ

@@ -1,8 +1,8 @@
 // What one gap costs, read as a kind at a tempo.
 ghost use Rattle.std.specs.Prelude.{◌≡◌, ◌-◌, ◌*◌, ◌<◌, ◌==◌, Some, pos, ◌-ℤ◌};
-ghost use Rattle.taps.specs.Readings.{apart, costs, kind_at, pick, tempo_at};
+ghost use Rattle.taps.specs.Readings.{apart, before_of, costs, kind_at, pick, tempo_at};
 ghost use Rattle.taps.specs.Values.{book_of, read_of};
-ghost use Rattle.pricing.specs.Pricing.{before_of, gap_text};
+ghost use Rattle.pricing.specs.Pricing.{gap_text};
 
 use std::fmt;
 use taps::book::Book;

@@ -6,10 +6,14 @@ use Rattle.std.specs.Prelude.{◌≡◌, ℕ, ◌<◌, ◌≤◌, Bool, true, �
 use Rattle.taps.specs.Readings.{Kind, Book}
 use Rattle.taps.specs.Calls.{Call, Answer, turned, answers, ran}
 
--- each kind has 1 to 96 ticks and a weight below 2^24
+-- a kind has 1 to 96 ticks and a weight below 2^24
+abbrev pub good_kind : Kind → Bool
+good_kind k = (nat_le 1 k.ticks && nat_le k.ticks 96) && nat_lt k.weight 16777216
+
+-- and each does
 unfoldable pub good_kinds : List Kind → Bool
 good_kinds [] = true
-good_kinds (k ∷ ks) = ((nat_le 1 k.ticks && nat_le k.ticks 96) && nat_lt k.weight 16777216) && good_kinds ks
+good_kinds (k ∷ ks) = good_kind k && good_kinds ks
 
 -- each tempo is from 100 to 4,000, and larger than the one before
 unfoldable pub good_tempi : List ℕ → Bool

@@ -7,7 +7,7 @@
 -- Read: one gap's part of a reading: a kind and a tempo, by their places in the book.
 -- Reading: a list of Reads, one for each gap, from the first gap on: a path through the book's tempi.
 -- before: the tempo of the gap before, as one more than its place; 0 where there is no gap before.
-use Rattle.std.specs.Prelude.{ℕ, zero, suc, ◌+◌, ◌-◌, ◌*◌, Bool, true, false, ◌&&◌, List, [], ◌∷◌, length, ◌==◌, nat_le, nat_lt, slice_index, slice_index_or}
+use Rattle.std.specs.Prelude.{ℕ, zero, suc, ◌+◌, ◌-◌, ◌*◌, Bool, true, false, ◌&&◌, List, [], ◌∷◌, length, Some, None, Option, ◌==◌, nat_le, nat_lt, slice_index, slice_index_or}
 
 -- the first of two where the test holds, else the second
 abbrev pub pick : {A : Type 0} → Bool → A → A → A
@@ -36,6 +36,11 @@ kind_at b i = slice_index_or b.kinds i (record { ticks = 0; weight = 0 })
 
 abbrev pub tempo_at : Book → ℕ → ℕ
 tempo_at b i = slice_index b.tempi i
+
+-- the tempo before, if there is one, by its place
+abbrev pub before_of : Option ℕ → ℕ
+before_of None = 0
+before_of (Some t) = suc t
 
 -- what it costs to read a gap so: how far twelve times the gap is from the kind's ticks times the tempo, the kind's weight, and, but for the first gap, the change for each ms
 -- by which the tempo differs from the one before

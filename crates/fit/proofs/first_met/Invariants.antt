@@ -1,7 +1,8 @@
 -- nothing is found yet, and what is to be found is found among the kinds that can still be first; each time they are fewer
 use Rattle.std.proofs.Common.{◌≡◌, None, length}
+use Rattle.taps.specs.Readings.{before_of}
 use Rattle.taps.specs.Values.{book_of}
-use Rattle.fit.specs.Fit.{allowed, before_of, first_meeting}
+use Rattle.fit.specs.Fit.{allowed, first_meeting}
 use Rattle.fit.proofs.Meeting.{here}
 use Rattle.fit.proofs.first_met.Given as goal
 

@@ -1,7 +1,8 @@
 -- the entries below t are written
 use Rattle.std.proofs.Common.{ℕ, ◌<◌, get_or}
+use Rattle.taps.specs.Readings.{before_of}
 use Rattle.taps.specs.Values.{book_of}
-use Rattle.fit.specs.Fit.{Wanted, before_of, change_cost}
+use Rattle.fit.specs.Fit.{Wanted, change_cost}
 use Rattle.fit.proofs.want.Given as goal
 
 abbrev pub invariant-loop-t : goal.invariant-loop-t

@@ -2,10 +2,10 @@ use Rattle.std.proofs.Common.{◌≡◌, ◌+◌, suc, drop, get_or, eqb, ap, �
 use Rattle.std.proofs.lemmas.Grind.{get_or_after_one}
 use Rattle.std.proofs.lemmas.List.{take_rest}
 use Rattle.least.proofs.Minimal.{first_same}
-use Rattle.taps.specs.Readings.{costs}
+use Rattle.taps.specs.Readings.{before_of, costs}
 use Rattle.taps.specs.Values.{book_of}
 use Rattle.statements.specs.Plain.{reads_of}
-use Rattle.fit.specs.Fit.{before_of, first_meeting}
+use Rattle.fit.specs.Fit.{first_meeting}
 use Rattle.plain.specs.Restricted.{kinds_at}
 use Rattle.plain.proofs.Alone.{before_state}
 use Rattle.plain.proofs.PlainTrellis.first_met.Goals as goal

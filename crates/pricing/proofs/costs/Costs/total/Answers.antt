@@ -1,7 +1,7 @@
 use Rattle.std.proofs.Common.{sym, ◌∙◌, arith}
 use Rattle.taps.specs.Calls.{gaps}
+use Rattle.taps.specs.Readings.{before_of}
 use Rattle.taps.specs.Values.{book_of}
-use Rattle.pricing.specs.Pricing.{before_of}
 use Rattle.pricing.specs.Values.{times_of}
 use Rattle.pricing.proofs.Prices.{total_more, total_whole}
 use Rattle.pricing.proofs.costs.Costs.total.Goals as goal

@@ -1,8 +1,7 @@
 use Rattle.std.proofs.Common.{◌≡◌, ◌+◌, ◌*◌, ◌≤◌, map, drop}
 use Rattle.taps.specs.Calls.{gaps}
-use Rattle.taps.specs.Readings.{all_cost}
+use Rattle.taps.specs.Readings.{before_of, all_cost}
 use Rattle.taps.specs.Values.{book_of, read_of, reading_of}
-use Rattle.pricing.specs.Pricing.{before_of}
 use Rattle.pricing.specs.Values.{times_of}
 use Rattle.pricing.proofs.costs.Costs.total.Given as goal
 

@@ -5,8 +5,9 @@ use Rattle.std.proofs.Output.{has_written_append, has_written_of_eq}
 use Rattle.std.proofs.lemmas.List.{length-map}
 use Rattle.taps.specs.Calls.{gaps}
 use Rattle.taps.specs.Items.{items}
+use Rattle.taps.specs.Readings.{before_of}
 use Rattle.taps.specs.Values.{book_of, read_of, reading_of}
-use Rattle.pricing.specs.Pricing.{before_of, costs_text, gap_text}
+use Rattle.pricing.specs.Pricing.{costs_text, gap_text}
 use Rattle.pricing.specs.Values.{times_of}
 use Rattle.pricing.proofs.Prices.{gap_there, text_more, text_whole}
 use Rattle.pricing.proofs.costs.CostsDisplay.fmt.Goals as goal

@@ -1,8 +1,9 @@
 use Rattle.std.proofs.Common.{◌≡◌, ℕ, List, ◌++◌, map, drop}
 use Rattle.std.specs.Fmt.{HasWritten, IsPlainFormatter}
 use Rattle.taps.specs.Calls.{gaps}
+use Rattle.taps.specs.Readings.{before_of}
 use Rattle.taps.specs.Values.{book_of, read_of, reading_of}
-use Rattle.pricing.specs.Pricing.{before_of, costs_text}
+use Rattle.pricing.specs.Pricing.{costs_text}
 use Rattle.pricing.specs.Values.{times_of}
 use Rattle.pricing.proofs.costs.CostsDisplay.fmt.Given as goal
 
