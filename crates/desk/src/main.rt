@@ -30,9 +30,9 @@ A call that is not taken changes nothing and is answered `refused NUMBER at PLAC
   5  there is no tap to take back
   6  there are N taps already
 
-N is how many taps are taken, up to 256, as many as without it. FILE has a book, as
-lines: up to 32 kinds of notes, up to 64 tempi, and what a change of tempo costs. With
-none, the notes are read by the built-in one:
+N is how many taps are taken, up to 256; without it 256. FILE has a book, as lines: up
+to 32 kinds of notes, up to 64 tempi, and what a change of tempo costs. With none, the
+notes are read by the built-in one:
 
   sixteenth 3, weight 2400
   eighth 6, weight 600
