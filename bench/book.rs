@@ -49,19 +49,7 @@ pub struct Book {
 
 impl Book {
     pub fn built_in() -> Book {
-        let kinds = [
-            (3, 2400),
-            (6, 600),
-            (12, 0),
-            (24, 600),
-            (8, 3000),
-            (4, 3600),
-        ];
-        Book {
-            kinds: kinds.map(|(ticks, weight)| Kind { ticks, weight }).to_vec(),
-            tempi: vec![400, 500, 600, 750],
-            change: 20,
-        }
+        Book::parse(include_bytes!("../books/all.book")).expect("books/all.book is a book")
     }
 
     pub fn read(path: &Path) -> Result<Book, String> {

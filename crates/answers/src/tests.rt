@@ -1,15 +1,15 @@
-// Calls answered one after another, in the book of the README.
+// Calls answered one after another, in the worked book.
 use crate::answer_call;
 use onsets::MOST_WORDS;
 use plain::{MOST_KEPT_WORDS, MOST_ROW_WORDS};
 use taps::answer::Answer;
-use taps::built_in::built_in_book;
 use taps::call::Call;
 use taps::read::{Read, Reading};
+use taps::worked::worked_book;
 
 // The reading told of some taps, and what it costs.
 fn told(taps: &[u32]) -> Option<(u64, Reading)> {
-    let book = &built_in_book();
+    let book = &worked_book();
     let mut words = [0; MOST_WORDS];
     let mut kept = [5; MOST_KEPT_WORDS];
     let mut rows = [0; MOST_ROW_WORDS];
@@ -62,7 +62,7 @@ fn of_equals_the_first(rt: HostRuntime) {
 // What was kept of taps that were taken back is not taken for what is kept of others.
 #[test]
 fn taken_back_and_played_otherwise(rt: HostRuntime) {
-    let book = &built_in_book();
+    let book = &worked_book();
     let mut words = [0; MOST_WORDS];
     let mut kept = [5; MOST_KEPT_WORDS];
     let mut rows = [0; MOST_ROW_WORDS];
@@ -105,7 +105,7 @@ fn calls_one_after_another(rt: HostRuntime) {
         (Call::Back, (1, 0)),
         (Call::Back, (0, 5)),
     ];
-    let book = &built_in_book();
+    let book = &worked_book();
     let mut words = [0; MOST_WORDS];
     let mut kept = [5; MOST_KEPT_WORDS];
     let mut rows = [0; MOST_ROW_WORDS];
@@ -118,7 +118,7 @@ fn calls_one_after_another(rt: HostRuntime) {
 // With four tempi the rows of as many taps as the limit take 256 times five words.
 #[test]
 fn calls_without_room_for_rows(rt: HostRuntime) {
-    let book = &built_in_book();
+    let book = &worked_book();
     let mut words = [5; MOST_WORDS];
     let mut kept = [5; MOST_KEPT_WORDS];
     let mut rows = [0; 256 * 5 - 1];

@@ -34,14 +34,18 @@ N is how many taps are taken, up to 256; without it 256. FILE has a book, as lin
 to 32 kinds of notes, up to 64 tempi, and what a change of tempo costs. With none, the
 notes are read by the built-in one:
 
-  sixteenth 3, weight 2400
-  eighth 6, weight 600
   quarter 12, weight 0
-  half 24, weight 600
-  quarter-triplet 8, weight 3000
-  eighth-triplet 4, weight 3600
-  tempi 400 500 600 750
-  change 20";
+  eighth 6, weight 180
+  half 24, weight 300
+  dotted-quarter 18, weight 720
+  sixteenth 3, weight 180
+  eighth-triplet 4, weight 180
+  dotted-eighth 9, weight 600
+  quarter-triplet 8, weight 540
+  dotted-half 36, weight 1020
+  tempi 380 395 410 425 440 460 480 500 520 540 560 580 600 625 650 675 700 725 750 \
+780 810 840 875 910 945 980 1020 1060 1100 1150 1200
+  change 13";
 
 fn main(rt: HostRuntime) -> ExitCode {
     let Err(error) = run(&rt) else {

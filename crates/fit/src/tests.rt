@@ -1,12 +1,12 @@
-// Costs worked by hand, in the book of the README.
+// Costs worked by hand, in the worked book.
 use crate::{fill, first_met};
 use bitset::BitSet;
-use taps::built_in::built_in_book;
 use taps::read::{Read, TOO_MUCH};
+use taps::worked::worked_book;
 
 #[test]
 fn rows_have_the_least_of_the_kinds_allowed(rt: HostRuntime) {
-    let book = built_in_book();
+    let book = worked_book();
     let mut words = [7; 8];
     fill(&book, BitSet::full(), 240, &mut words[2..6]);
     assert!(rt; words == [7, 7, 1080, 720, 1320, 2220, 7, 7]);
@@ -20,7 +20,7 @@ fn rows_have_the_least_of_the_kinds_allowed(rt: HostRuntime) {
 
 #[test]
 fn the_first_read_by_kinds_and_then_by_tempi(rt: HostRuntime) {
-    let book = built_in_book();
+    let book = worked_book();
     let all = BitSet::full();
     let eighth = Some(Read { kind: 1, tempo: 1 });
     assert!(rt; first_met(&book, all, None, 240, &[0; 4], 720) == eighth);

@@ -1,12 +1,12 @@
 // Lines that are asked and answered, and a limit that is too large.
 use crate::open_desk::OpenDesk;
 use std::test::Fail;
-use taps::built_in::built_in_book;
 use taps::refusal::Refusal;
+use taps::worked::worked_book;
 
 #[test]
 fn lines_of_calls(rt: HostRuntime) -> Result<(), Fail> {
-    let Ok(mut desk) = OpenDesk::new(built_in_book(), 2) else {
+    let Ok(mut desk) = OpenDesk::new(worked_book(), 2) else {
         return Err(Fail::new("no desk"));
     };
     let told = desk.answer_lines(
@@ -17,6 +17,6 @@ fn lines_of_calls(rt: HostRuntime) -> Result<(), Fail> {
         told.as_str()
             == "0\n1\nrefused 6 at 0\nrefused 1 at 3\n720\n6@500\nrefused 2 at 0\nrefused 1 at 7\n"
     );
-    assert!(rt; OpenDesk::new(built_in_book(), 257).err() == Some(Refusal::LimitTooLarge));
+    assert!(rt; OpenDesk::new(worked_book(), 257).err() == Some(Refusal::LimitTooLarge));
     Ok(())
 }

@@ -6,14 +6,14 @@ use Rattle.std.specs.Option.{option_map}
 use Rattle.std.specs.String.{string_bytes}
 use Rattle.taps.specs.Readings.{Book}
 use Rattle.taps.specs.Values.{book_of}
-use Rattle.taps.specs.Worked.{worked}
+use Rattle.taps.specs.BuiltIn.{built_in}
 use Rattle.options.specs.Options as options
 use Rattle.options.specs.Options.{asked_in}
 use Rattle.options.specs.declared.Options.{Options}
 
 -- where no book is named, the built-in one
 abbrev pub IsBook : Book → Option (List ℕ) → Type 0
-IsBook b None = b ≡ worked
+IsBook b None = b ≡ built_in
 IsBook b (Some path) = Unit {0}
 
 pub record IsSet (o : Options) (r : options.Request) : Type 0 where

@@ -1,4 +1,4 @@
-// Rows and costs worked by hand, in the book of the README.
+// Rows and costs worked by hand, in the worked book.
 ghost use Rattle.std.specs.Prelude.{◌≡◌};
 ghost use Rattle.taps.specs.Values.{book_of};
 ghost use Rattle.taps.specs.Worked.{worked};
@@ -9,9 +9,9 @@ use crate::{
 use bitset::BitSet;
 use model::{Step, keep_step, write_suffix_rows};
 use std::test::Fail;
-use taps::built_in::built_in_book;
 use taps::read::{MOST_GAPS, TOO_MUCH};
 use taps::tempi::{MOST_TEMPI, Tempi};
+use taps::worked::worked_book;
 
 // Words for what is kept of five gaps at four tempi, and for their rows.
 const KEPT: usize = 50;
@@ -22,13 +22,13 @@ fn model() -> Plain
     ensures { book_of result.book ≡ worked }
 {
     Plain {
-        book: built_in_book(),
+        book: worked_book(),
     }
 }
 
 // Keeps gaps, and says what they cost.
 fn keep(gaps: &[u16], kept: &mut [u64]) -> Option<u64> {
-    let book = &built_in_book();
+    let book = &worked_book();
     keep_start(book, kept)?;
     for (done, gap) in gaps.iter().enumerate() {
         keep_gap(book, done, u32::from(*gap), kept)?;
@@ -65,7 +65,7 @@ fn what_is_kept_of_two_gaps(rt: HostRuntime) {
 // A gap that takes another's place leaves nothing of it.
 #[test]
 fn played_otherwise(rt: HostRuntime) {
-    let book = &built_in_book();
+    let book = &worked_book();
     let mut kept = [7; KEPT];
     keep(&[500, 500, 600, 600, 600], &mut kept);
     keep_gap(book, 2, 250, &mut kept);
@@ -78,7 +78,7 @@ fn played_otherwise(rt: HostRuntime) {
 
 #[test]
 fn words_too_few_stay_as_they_are(rt: HostRuntime) {
-    let book = &built_in_book();
+    let book = &worked_book();
     let mut kept = [7; 13];
     assert!(rt; keep_start(book, &mut kept[..4]).is_none());
     assert!(rt; keep_gap(book, 0, 500, &mut kept).is_none());
@@ -98,7 +98,7 @@ fn most_words(rt: HostRuntime) -> Result<(), Fail> {
     let Some(tempi) = Tempi::new(all, MOST_TEMPI) else {
         return Err(Fail::new("no tempi"));
     };
-    let mut book = built_in_book();
+    let mut book = worked_book();
     book.tempi = tempi;
     assert!(rt; kept_words(&book, MOST_GAPS) == MOST_KEPT_WORDS);
     assert!(rt; row_words(&book, MOST_GAPS) == MOST_ROW_WORDS);
@@ -158,7 +158,7 @@ fn one_least_by_all_rows(rt: HostRuntime) {
 #[test]
 fn with_some_kinds_alone(rt: HostRuntime) {
     let mut kept = [7; KEPT];
-    let book = &built_in_book();
+    let book = &worked_book();
     keep_start(book, &mut kept);
     keep_step(&model(), 0, step(500, BitSet::only(1)), &mut kept);
     assert!(rt; kept_cost(book, 1, &kept) == Some(2100));

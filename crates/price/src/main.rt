@@ -23,8 +23,8 @@ For each gap its note is told and what it costs, and last what all cost:
 
   12@500 0
   12@500 0
-  12@600 2000
-  all 2000
+  12@600 1300
+  all 1300
 
 A gap costs how far 12 times its ms are from the note's ticks times the tempo, and
 the weight of its kind, and, but for the first gap, what the change of tempo costs for

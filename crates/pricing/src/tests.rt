@@ -2,10 +2,10 @@
 use crate::costs::Costs;
 use crate::tap_line::{Untaken, Why, parse_taps};
 use std::test::Fail;
-use taps::built_in::built_in_book;
 use taps::listed::Listed;
 use taps::read::{MOST_GAPS, Read, Reading};
 use taps::refusal::Refusal;
+use taps::worked::worked_book;
 
 // Quarters: two at 500 ms a beat, and the others at 600.
 fn quarters(count: usize) -> Option<Reading> {
@@ -17,7 +17,7 @@ fn quarters(count: usize) -> Option<Reading> {
 
 #[test]
 fn worked_taps(rt: HostRuntime) -> Result<(), Fail> {
-    let book = &built_in_book();
+    let book = &worked_book();
     let taps = parse_taps(b"0 500 1000 1600 2200 2800")?;
     let costs = Costs::new(book, taps, quarters(5).ok_or("no reading")?)?;
     assert_eq!(rt; costs.total(), 2000);
@@ -31,7 +31,7 @@ fn worked_taps(rt: HostRuntime) -> Result<(), Fail> {
 
 #[test]
 fn no_taps(rt: HostRuntime) -> Result<(), Fail> {
-    let book = &built_in_book();
+    let book = &worked_book();
     let costs = Costs::new(book, parse_taps(b" ")?, quarters(0).ok_or("no reading")?)?;
     let text = format!(in rt.alloc(); "{costs}")?;
     assert_eq!(rt; text.as_str(), "all 0");
@@ -40,7 +40,7 @@ fn no_taps(rt: HostRuntime) -> Result<(), Fail> {
 
 #[test]
 fn more_notes_than_gaps(rt: HostRuntime) -> Result<(), Fail> {
-    let book = &built_in_book();
+    let book = &worked_book();
     let reading = quarters(2).ok_or("no reading")?;
     let Err(wrong) = Costs::new(book, parse_taps(b"0 500")?, reading) else {
         return Err(Fail::new("two notes for a gap"));

@@ -3,7 +3,7 @@ use crate::{MOST_WORDS, Unanswered, call, open, words_asked};
 use std::test::Fail;
 use taps::refusal::Refusal;
 
-// What a desk with the book of the README and a limit of two taps asks for in each slice: 39, 3 and 14.
+// What a desk with the worked book and a limit of two taps asks for in each slice: 39, 3 and 14.
 const HALF: usize = 56;
 
 // The bytes of that book.

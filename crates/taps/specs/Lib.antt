@@ -4,3 +4,4 @@ pub mod Promise
 pub mod Items
 pub mod Values
 pub mod Worked
+pub mod BuiltIn

@@ -19,6 +19,7 @@ pub mod listed;
 pub mod read;
 pub mod refusal;
 pub mod tempi;
+pub mod worked;
 
 use book::Book;
 

@@ -2,7 +2,7 @@
 //
 // A desk is opened, and answers, with no memory but what it is lent. So its lists are arrays with a count, and not
 // vectors, which would want memory; and like the values that hold them they are copied, which a vector is not.
-ghost use Rattle.std.specs.Prelude.{◌≡◌, ◌≤◌, ⊤, length, is_some, IfSome, nat_le};
+ghost use Rattle.std.specs.Prelude.{◌≡◌, ◌<◌, ◌≤◌, ⊤, length, is_some, IfSome, nat_le};
 
 use std::alloc::AllocError;
 
@@ -27,6 +27,20 @@ impl<T, const N: usize> Listed<T, N> {
             return None;
         }
         Some(Listed { all, count })
+    }
+
+    // All items of an array that has one at least, and no more than `N`.
+    pub fn from_array<const M: usize>(list: [T; M]) -> Listed<T, N>
+    where
+        T: Copy,
+        requires some { 0 < M }
+        requires few { M ≤ N }
+        ensures items { items result ≡ list }
+        ensures count { result.count ≡ M }
+    {
+        let mut all = [list[0]; N];
+        all[..M].copy_from_slice(&list);
+        Listed { all, count: M }
     }
 
     pub fn as_slice(&self) -> &[T]

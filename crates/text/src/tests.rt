@@ -4,15 +4,15 @@ use crate::call::{CallLine, parse_call};
 use crate::reading::{Unread, parse_reading};
 use std::test::Fail;
 use taps::answer::Answer;
-use taps::built_in::built_in_book;
 use taps::call::Call;
 use taps::listed::Listed;
 use taps::read::{MOST_GAPS, Read};
 use taps::refusal::Refusal;
+use taps::worked::worked_book;
 
 #[test]
 fn answers_as_lines(rt: HostRuntime) -> Result<(), Fail> {
-    let book = &built_in_book();
+    let book = &worked_book();
     let answer = &Answer::Refused(Refusal::NotLater);
     let refused = format!(in rt.alloc(); "{}", Line { book, answer })?;
     assert!(rt; refused.as_str() == "refused 4 at 0");
@@ -36,7 +36,7 @@ fn calls_as_lines(rt: HostRuntime) -> Result<(), Fail> {
 
 #[test]
 fn readings_as_lines(rt: HostRuntime) -> Result<(), Fail> {
-    let book = &built_in_book();
+    let book = &worked_book();
     let none = Listed {
         all: [Read { kind: 0, tempo: 0 }; MOST_GAPS],
         count: 0,
