@@ -6,8 +6,6 @@ from dataclasses import dataclass
 # Pulses for a quarter, and how many ms a quarter has in a file that does not say.
 PULSES = 480
 DEFAULT_BEAT = 500
-# How much of each gap sounds: with this much, the programs that read such files here get most notes right.
-SOUNDS = 0.9
 # Each note has the pitch after that of the one before, so that it can be told which are missing; twelve of them.
 LOWEST = 60
 PITCHES = 12
@@ -25,8 +23,11 @@ def pitch_of(number):
     return LOWEST + number % PITCHES
 
 
-def write_midi(taps, beat=None):
-    """A file with a note at each tap. beat: how many ms a quarter takes, where the file is to say so."""
+def write_midi(taps, sounds, beat=None):
+    """A file with a note at each tap.
+
+    sounds: for how much of the time to the next one; beat: how many ms a quarter takes, where the file is to say so.
+    """
     pulses = [round(tap * PULSES / (beat or DEFAULT_BEAT)) for tap in taps]
     events = bytearray()
     if beat is not None:
@@ -34,7 +35,7 @@ def write_midi(taps, beat=None):
     now = 0
     for number, begins in enumerate(pulses):
         follows = pulses[number + 1] if number + 1 < len(pulses) else begins + PULSES
-        ends = begins + round(SOUNDS * (follows - begins))
+        ends = begins + round(sounds * (follows - begins))
         events += variable(begins - now) + bytes([0x90, pitch_of(number), 80])
         events += variable(ends - begins) + bytes([0x80, pitch_of(number), 0])
         now = ends

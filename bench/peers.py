@@ -24,14 +24,25 @@ MOST_SECONDS = 1800
 
 
 @dataclass(frozen=True)
+class Settings:
+    # How much of each gap sounds in the files that a program is given.
+    sounds: float
+    # What it is told on its command line.
+    options: tuple = ()
+
+
+@dataclass(frozen=True)
 class Peer:
     name: str
     # Debian's package, and the commands of it that are started.
     package: str
     commands: tuple
-    # write_down(folder, told): makes of each file N.mid in the folder a file N.score.mid, where it can. told: whether
-    # the files tell the first tempo.
+    # write_down(folder, options): makes of each file N.mid in the folder a file N.score.mid, where it can.
     write_down: Callable
+    # Of those tried, the ones with which it reads most notes right of the performances for the book of all kinds with
+    # the seeds 1000 to 1099: where the files tell the first tempo, and where they tell none.
+    told: Settings
+    untold: Settings
 
     def is_installed(self):
         return all(shutil.which(command) for command in self.commands)
@@ -39,10 +50,11 @@ class Peer:
 
 def transcribe(peer, performances, told, folder):
     """Of each note of each performance, how many ticks it lasts as the peer writes it; None where it is not there."""
+    settings = peer.told if told else peer.untold
     for number, performance in enumerate(performances):
         beat = performance.beat if told else None
-        (folder / f"{number}.mid").write_bytes(write_midi(performance.taps, beat))
-    peer.write_down(folder, told)
+        (folder / f"{number}.mid").write_bytes(write_midi(performance.taps, settings.sounds, beat))
+    peer.write_down(folder, settings.options)
     scores = [folder / f"{number}.score.mid" for number in range(len(performances))]
     missing = sum(not score.exists() for score in scores)
     if missing:
@@ -86,17 +98,16 @@ def run(*words, **options):
         )
 
 
-def by_musescore(folder, told):
+def by_musescore(folder, options):
     jobs = [{"in": str(path), "out": str(path.with_suffix(".score.mid"))} for path in midi_files(folder)]
     (folder / "jobs.json").write_text(json.dumps(jobs))
-    run("mscore3", "-j", str(folder / "jobs.json"), env=dict(os.environ, QT_QPA_PLATFORM="offscreen"))
+    run("mscore3", *options, "-j", str(folder / "jobs.json"), env=dict(os.environ, QT_QPA_PLATFORM="offscreen"))
 
 
-def by_midi2ly(folder, told):
-    # With sixteenths it reads most notes right: more than with eighths, thirty-seconds or triplets beside.
+def by_midi2ly(folder, options):
     for path in midi_files(folder):
         source = path.with_suffix(".ly")
-        run("midi2ly", "--start-quant=16", "--duration-quant=16", f"--output={source}", str(path))
+        run("midi2ly", *options, f"--output={source}", str(path))
         if source.exists():
             # Nothing is to be drawn.
             source.write_text(source.read_text().replace("\\layout {}", ""))
@@ -105,17 +116,38 @@ def by_midi2ly(folder, told):
         score.rename(score.with_suffix(".score.mid"))
 
 
-def by_midi2abc(folder, told):
-    # Where no tempo is told it is to guess the shortest note.
-    guess = [] if told else ["-gu"]
+def by_midi2abc(folder, options):
     for path in midi_files(folder):
         source = path.with_suffix(".abc")
-        run("midi2abc", str(path), "-o", str(source), *guess)
+        run("midi2abc", str(path), "-o", str(source), *options)
         run("abc2midi", str(source), "-o", str(path.with_suffix(".score.mid")))
 
 
+def quantized(note):
+    """midi2ly's options for a grid of such notes."""
+    return (f"--start-quant={note}", f"--duration-quant={note}")
+
+
+# Short rests belong to the note before; the shortest note is guessed.
+SHORT_RESTS = ("-sr", "2")
+GUESS = ("-gu",)
+
 PEERS = [
-    Peer("MuseScore", "musescore3", ("mscore3",), by_musescore),
-    Peer("midi2ly", "lilypond", ("midi2ly", "lilypond"), by_midi2ly),
-    Peer("midi2abc", "abcmidi", ("midi2abc", "abc2midi"), by_midi2abc),
+    Peer("MuseScore", "musescore3", ("mscore3",), by_musescore, Settings(0.9), Settings(0.8)),
+    Peer(
+        "midi2ly",
+        "lilypond",
+        ("midi2ly", "lilypond"),
+        by_midi2ly,
+        Settings(0.9, quantized(16)),
+        Settings(0.9, quantized(8)),
+    ),
+    Peer(
+        "midi2abc",
+        "abcmidi",
+        ("midi2abc", "abc2midi"),
+        by_midi2abc,
+        Settings(0.9, SHORT_RESTS),
+        Settings(0.5, GUESS + SHORT_RESTS),
+    ),
 ]
