@@ -16,13 +16,13 @@ pub fn least_of(row: &[u64]) -> Option<u64>
     row.iter().copied().min()
 }
 
-// The first place of the least number of a row: of equal keys `min_by_key` keeps the first.
+// The first place of the least number of a row: of equal numbers the earlier one stays.
 pub fn first_least(row: &[u64]) -> Option<usize>
     ensures { FirstLeast row.now result }
 {
     row.iter()
         .enumerate()
-        .min_by_key(|(_, x)| **x)
+        .reduce(|best, next| if best.1 <= next.1 { best } else { next })
         .map(|(i, _)| i)
 }
 
