@@ -2,10 +2,11 @@
 //
 // The crate `lines` holds the desk, and promises what the lines of a text are answered; `options` reads the command line.
 // What is here reads and prints, which is run and compared: a file of calls is answered as a whole
-// (`OpenDesk::answer_lines`), standard input line by line.
+// (`BorrowedDesk::answer_lines`), standard input line by line. The desk's words lie on the heap, as many as its book and its
+// limit ask for, so that a small stack will do.
 
 use anyhow::{Result, anyhow};
-use lines::open_desk::OpenDesk;
+use lines::borrowed_desk::{BorrowedDesk, words_asked};
 use lines::reply::ReplyLine;
 use options::{Options, read_options};
 use std::fs;
@@ -61,26 +62,29 @@ fn run(rt: &HostRuntime) -> Result<()> {
         return Ok(println!(rt; "{HELP}")?);
     };
     let Options { book, limit, input } = options;
-    let desk = &mut OpenDesk::new(book, limit).map_err(|refusal| anyhow!("no desk: {refusal}"))?;
+    let words = words_asked(&book, limit).map_err(|refusal| anyhow!("no desk: {refusal}"))?;
+    let mut left = vec![in rt.alloc(); 0; words]?;
+    let mut right = vec![in rt.alloc(); 0; words]?;
+    let opened = BorrowedDesk::open(&book, limit, left.as_mut_slice(), right.as_mut_slice());
+    let desk = &mut opened.map_err(|refusal| anyhow!("no desk: {refusal}"))?;
     match input {
         Some(path) => answer_file(rt, desk, path.as_str()),
         None => Ok(answer_input(rt, desk)?),
     }
 }
 
-fn answer_file(rt: &HostRuntime, desk: &mut OpenDesk, path: &str) -> Result<()> {
+fn answer_file(rt: &HostRuntime, desk: &mut BorrowedDesk<'_>, path: &str) -> Result<()> {
     let calls = fs::read(rt, path).map_err(|error| anyhow!("{path}: {error}"))?;
     let told = desk.answer_lines(rt.alloc(), calls.as_slice())?;
     Ok(print!(rt; "{told}")?)
 }
 
 // Each answer is out before the next line is waited for.
-fn answer_input(rt: &HostRuntime, desk: &mut OpenDesk) -> io::Result<()> {
+fn answer_input(rt: &HostRuntime, desk: &mut BorrowedDesk<'_>) -> io::Result<()> {
     let input = BufReader::new(rt.alloc(), rt.stdin())?;
     let book = desk.book;
     for (number, line) in input.split(rt.alloc(), b'\n').enumerate() {
         let reply = &desk.answer_line(line?.as_slice(), number);
-        let book = &book;
         println!(rt; "{}", ReplyLine { book, reply })?;
     }
     Ok(())

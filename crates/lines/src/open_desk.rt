@@ -11,7 +11,8 @@ ghost use Rattle.session.specs.Session.{Came, IsDesk, desk, memory, taps_held};
 ghost use Rattle.lines.specs.Lines.{answers_text, call_at, calls_in};
 ghost use Rattle.lines.specs.Values.{reply_of};
 
-use crate::reply::{Reply, ReplyLine};
+use crate::borrowed_desk::BorrowedDesk;
+use crate::reply::Reply;
 use books::book::{MOST_BYTES, encode_book};
 use session::{MOST_WORDS, open};
 use std::alloc::{AllocError, Global};
@@ -19,15 +20,6 @@ use taps::answer::Answer;
 use taps::book::Book;
 use taps::call::{Call, MOST_TAPS};
 use taps::refusal::Refusal;
-use text::call::parse_call;
-use tokens::split_line;
-use wire::answer::decode_answer;
-use wire::call::encode_call;
-
-// The most bytes that a call takes.
-const CALL_SIZE: usize = 5;
-// Two bytes for each tap and 16 more: room for any answer.
-const ANSWER_SIZE: usize = 2 * MOST_TAPS + 16;
 
 #[derive(Drop)]
 pub struct OpenDesk {
@@ -72,16 +64,13 @@ impl OpenDesk {
         ensures answers { (cs : List calls.Call) → Came (book_of self.old.book) self.old.limit cs self.old.left self.old.right → (answer_of result ≡ answer (book_of self.old.book) self.old.limit (ran self.old.limit [] cs) (call_of call)) × Came (book_of self.old.book) self.old.limit (cs ++ call_of call ∷ []) self.new.left self.new.right }
         ensures best { Best (book_of self.old.book) (taps_held (book_of self.old.book) self.old.limit self.old.left) (call_of call) (answer_of result) }
     {
-        let mut request = [0; CALL_SIZE];
-        let mut bytes = [0; ANSWER_SIZE];
-        let sent = encode_call(call, &mut request).unwrap();
-        let told = session::call(
-            &mut self.left,
-            &mut self.right,
-            &request[..sent],
-            &mut bytes,
-        );
-        decode_answer(&bytes[..told.unwrap()]).unwrap()
+        let mut desk = BorrowedDesk {
+            book: &self.book,
+            limit: self.limit,
+            left: &mut self.left,
+            right: &mut self.right,
+        };
+        desk.ask(call)
     }
 
     // Answers the line with this number; one that can't be read changes nothing.
@@ -91,10 +80,13 @@ impl OpenDesk {
         ensures value { reply_of result ≡ answer (book_of self.old.book) self.old.limit (taps_held (book_of self.old.book) self.old.limit self.old.left) (call_at number line.now) }
         ensures answers { (cs : List calls.Call) → Came (book_of self.old.book) self.old.limit cs self.old.left self.old.right → (reply_of result ≡ answer (book_of self.old.book) self.old.limit (ran self.old.limit [] cs) (call_at number line.now)) × Came (book_of self.old.book) self.old.limit (cs ++ call_at number line.now ∷ []) self.new.left self.new.right }
     {
-        let Some(call) = parse_call(line) else {
-            return Reply::Unreadable(number);
+        let mut desk = BorrowedDesk {
+            book: &self.book,
+            limit: self.limit,
+            left: &mut self.left,
+            right: &mut self.right,
         };
-        Reply::Answered(self.ask(call))
+        desk.answer_line(line, number)
     }
 
     // Answers the lines of a text, a line each. Where no memory is to be had for that, nothing is told, and the desk is as
@@ -105,20 +97,12 @@ impl OpenDesk {
         ensures answers { (cs : List calls.Call) → Came (book_of self.old.book) self.old.limit cs self.old.left self.old.right → IfOk result (λ told. (string_bytes told ≡ answers_text (book_of self.old.book) (answers (book_of self.old.book) self.old.limit (ran self.old.limit [] cs) (calls_in 0 (lines_in text.now)))) × Came (book_of self.old.book) self.old.limit (cs ++ calls_in 0 (lines_in text.now)) self.new.left self.new.right) }
         ensures untold { (cs : List calls.Call) → Came (book_of self.old.book) self.old.limit cs self.old.left self.old.right → IfErr result (λ _. (n : ℕ) × (0 < n) × (n ≤ length (lines_in text.now)) × Came (book_of self.old.book) self.old.limit (cs ++ take n (calls_in 0 (lines_in text.now))) self.new.left self.new.right) }
     {
-        let book = self.book;
-        let mut told = String::new(alloc);
-        let mut rest = text;
-        let mut number = 0;
-        while let Some((line, behind)) = split_line(rest) {
-            let reply = self.answer_line(line, number);
-            let line = ReplyLine {
-                book: &book,
-                reply: &reply,
-            };
-            writeln!(told, "{line}")?;
-            rest = behind;
-            number += 1;
-        }
-        Ok(told)
+        let mut desk = BorrowedDesk {
+            book: &self.book,
+            limit: self.limit,
+            left: &mut self.left,
+            right: &mut self.right,
+        };
+        desk.answer_lines(alloc, text)
     }
 }
