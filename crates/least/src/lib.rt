@@ -22,7 +22,7 @@ pub fn first_least(row: &[u64]) -> Option<usize>
 {
     row.iter()
         .enumerate()
-        .reduce(|best, next| if best.1 <= next.1 { best } else { next })
+        .reduce(|best, next| if next.1 < best.1 { next } else { best })
         .map(|(i, _)| i)
 }
 
