@@ -3,21 +3,22 @@
 -- d, e: a desk before a call and after it, or before a text and after it. c: a call. cs: calls, one after another. a: an answer.
 use Rattle.std.specs.Prelude.{◌≡◌, ℕ, ◌<◌, ◌≤◌, List, [], ◌∷◌, ◌++◌, length, take, drop, Some, Result}
 use Rattle.std.specs.Borrow.{MutBor}
-use Rattle.taps.specs.Readings.{Book}
 use Rattle.taps.specs.Calls as calls
-use Rattle.taps.specs.Calls.{Answer, answer, answers, ran}
+use Rattle.taps.specs.Calls.{Answer, after, answer, answers, ran}
 use Rattle.taps.specs.Promise.{Memory}
 use Rattle.taps.specs.Values.{book_of}
+use Rattle.taps.specs.declared.book.Book.{Book}
 use Rattle.taps.specs.declared.refusal.Refusal.{Refusal}
 use Rattle.tokens.specs.Tokens.{lines_in}
+use Rattle.answers.specs.Laws.{Best}
 use Rattle.session.specs.Layout.{asked, half, room_for}
 use Rattle.session.specs.Session.{Came, desk, memory, taps_held}
 use Rattle.lines.specs.Lines.{answers_text, calls_in}
 use Rattle.lines.specs.declared.borrowed_desk.BorrowedDesk.{BorrowedDesk}
 
 -- whether a desk with a book and a limit can be opened over two slices, or why not
-abbrev pub open_result : Book → ℕ → List ℕ → List ℕ → Result Unit Refusal
-open_result b limit left right = room_for (asked (Some b) limit) (length left) (length right)
+abbrev pub open_check : Book → ℕ → List ℕ → List ℕ → Result Unit Refusal
+open_check book limit left right = room_for (asked (Some (book_of book)) limit) (length left) (length right)
 
 -- its words are these slices
 abbrev pub IsOver : BorrowedDesk → MutBor (List ℕ) → MutBor (List ℕ) → Type 0
@@ -51,6 +52,20 @@ answer_to d ts c = answer (book_of d.book.now) d.limit ts c
 abbrev pub text_to : BorrowedDesk → List ℕ → List ℕ → List ℕ
 text_to d ts text = answers_text (book_of d.book.now) (answers (book_of d.book.now) d.limit ts (calls_in 0 (lines_in text)))
 
+-- the same of the taps that it holds, and which taps there are after a call
+abbrev pub next_answer : BorrowedDesk → calls.Call → Answer
+next_answer d c = answer_to d (taps_of d) c
+
+abbrev pub next_text : BorrowedDesk → List ℕ → List ℕ
+next_text d text = text_to d (taps_of d) text
+
+abbrev pub next_taps : BorrowedDesk → calls.Call → List ℕ
+next_taps d c = after d.limit (taps_of d) c
+
+-- an answer is right of all readings of the taps that it holds
+abbrev pub IsBest : BorrowedDesk → calls.Call → Answer → Type 0
+IsBest d c a = Best (book_of d.book.now) (taps_of d) c a
+
 -- a call is one step of the desk of `session`
 abbrev pub IsStep : BorrowedDesk → calls.Call → Answer → BorrowedDesk → Type 0
 IsStep d c a e = (memory_of e ≡ desk.next (memory_of d) c) × (a ≡ desk.says (memory_of d) c)
@@ -60,8 +75,8 @@ abbrev pub Answers : BorrowedDesk → calls.Call → Answer → BorrowedDesk →
 Answers d c a e = (cs : List calls.Call) → IsAfter cs d → (a ≡ answer_to d (ran d.limit [] cs) c) × IsAfter (cs ++ c ∷ []) e
 
 -- the same of all lines of a text, and what is told of them
-abbrev pub AnswersAll : BorrowedDesk → List ℕ → List ℕ → BorrowedDesk → Type 0
-AnswersAll d text told e = (cs : List calls.Call) → IsAfter cs d → (told ≡ text_to d (ran d.limit [] cs) text) × IsAfter (cs ++ calls_in 0 (lines_in text)) e
+abbrev pub TellsAll : BorrowedDesk → List ℕ → List ℕ → BorrowedDesk → Type 0
+TellsAll d text told e = (cs : List calls.Call) → IsAfter cs d → (told ≡ text_to d (ran d.limit [] cs) text) × IsAfter (cs ++ calls_in 0 (lines_in text)) e
 
 -- some of its lines were asked, from the first on: one at least
 abbrev pub IsAfterFirst : BorrowedDesk → List ℕ → BorrowedDesk → Type 0

@@ -1,11 +1,9 @@
 // A desk with a book, over borrowed words.
 ghost use Rattle.std.specs.Prelude.{◌≡◌, ◌≤◌, [], take, Some, Ok, Err, IfErr, IfOk};
 ghost use Rattle.std.specs.String.{string_bytes};
-ghost use Rattle.taps.specs.Calls.{after};
 ghost use Rattle.taps.specs.Values.{answer_of, book_of, call_of};
 ghost use Rattle.books.specs.Books.{book_in};
 ghost use Rattle.books.specs.declared.book.TheConstants.{MOST_BYTES};
-ghost use Rattle.answers.specs.Laws.{Best};
 ghost use Rattle.session.specs.Layout.{asked};
 ghost use Rattle.session.specs.Session.{IsDesk};
 ghost use Rattle.lines.specs.Lines.{call_at};
@@ -56,7 +54,7 @@ fn book_bytes(book: &Book) -> ([u8; MOST_BYTES], usize)
 }
 
 impl<'a> BorrowedDesk<'a> {
-    ghost use Rattle.lines.specs.Borrowed.{Answers, AnswersAll, IsAfter, IsAfterFirst, IsOver, IsSame, IsStep, KeepsRest, answer_to, open_result, taps_of, text_to};
+    ghost use Rattle.lines.specs.Borrowed.{Answers, IsAfter, IsAfterFirst, IsBest, IsOver, IsSame, IsStep, KeepsRest, TellsAll, next_answer, next_taps, next_text, open_check, taps_of};
 
     // Opens a desk over slices of at least as many words as are asked for; those behind them stay as they are. With a limit
     // above 256 none is opened.
@@ -66,12 +64,12 @@ impl<'a> BorrowedDesk<'a> {
         left: &'a mut [u64],
         right: &'a mut [u64],
     ) -> Result<BorrowedDesk<'a>, Refusal>
-        ensures taken { IfOk result (λ _. open_result (book_of book.now) limit left.old right.old ≡ Ok tt) }
+        ensures taken { IfOk result (λ _. open_check book.now limit left.old right.old ≡ Ok tt) }
         ensures book { IfOk result (λ d. (d.book.now ≡ book.now) × (d.limit ≡ limit)) }
         ensures slices { IfOk result (λ d. IsOver d left.entry right.entry) }
         ensures opened { IfOk result (IsAfter []) }
         ensures rest { IfOk result (λ d. KeepsRest d left.old right.old) }
-        ensures refused { IfErr result (λ e. open_result (book_of book.now) limit left.old right.old ≡ Err e) }
+        ensures refused { IfErr result (λ e. open_check book.now limit left.old right.old ≡ Err e) }
     {
         let (bytes, size) = book_bytes(book);
         session::open(&bytes[..size], limit, left, right)?;
@@ -87,10 +85,10 @@ impl<'a> BorrowedDesk<'a> {
     pub fn ask(&mut self, call: Call) -> Answer
         ensures same { IsSame self.old self.new }
         ensures step { IsStep self.old (call_of call) (answer_of result) self.new }
-        ensures taps { taps_of self.new ≡ after self.old.limit (taps_of self.old) (call_of call) }
-        ensures value { answer_of result ≡ answer_to self.old (taps_of self.old) (call_of call) }
+        ensures taps { taps_of self.new ≡ next_taps self.old (call_of call) }
+        ensures value { answer_of result ≡ next_answer self.old (call_of call) }
         ensures answers { Answers self.old (call_of call) (answer_of result) self.new }
-        ensures best { Best (book_of self.old.book.now) (taps_of self.old) (call_of call) (answer_of result) }
+        ensures best { IsBest self.old (call_of call) (answer_of result) }
     {
         let mut request = [0; CALL_SIZE];
         let mut bytes = [0; ANSWER_SIZE];
@@ -102,8 +100,8 @@ impl<'a> BorrowedDesk<'a> {
     // Answers the line with this number; one that can't be read changes nothing.
     pub fn answer_line(&mut self, line: &[u8], number: usize) -> Reply
         ensures same { IsSame self.old self.new }
-        ensures taps { taps_of self.new ≡ after self.old.limit (taps_of self.old) (call_at number line.now) }
-        ensures value { reply_of result ≡ answer_to self.old (taps_of self.old) (call_at number line.now) }
+        ensures taps { taps_of self.new ≡ next_taps self.old (call_at number line.now) }
+        ensures value { reply_of result ≡ next_answer self.old (call_at number line.now) }
         ensures answers { Answers self.old (call_at number line.now) (reply_of result) self.new }
     {
         let Some(call) = parse_call(line) else {
@@ -116,8 +114,8 @@ impl<'a> BorrowedDesk<'a> {
     // it is after the calls of the first lines: of one at least, and at most of all.
     pub fn answer_lines(&mut self, alloc: Global, text: &[u8]) -> Result<String, AllocError>
         ensures same { IsSame self.old self.new }
-        ensures value { IfOk result (λ told. string_bytes told ≡ text_to self.old (taps_of self.old) text.now) }
-        ensures answers { IfOk result (λ told. AnswersAll self.old text.now (string_bytes told) self.new) }
+        ensures value { IfOk result (λ told. string_bytes told ≡ next_text self.old text.now) }
+        ensures answers { IfOk result (λ s. TellsAll self.old text.now (string_bytes s) self.new) }
         ensures untold { IfErr result (λ _. IsAfterFirst self.old text.now self.new) }
     {
         let book = self.book;
